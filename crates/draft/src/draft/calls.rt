@@ -1,0 +1,105 @@
+// The calls on a draft: each does what a plain list of lines does.
+ghost use mathlib.Core.Path.{_≡_};
+ghost use mathlib.Core.List.{[]};
+ghost use lib.ListN.{length};
+ghost use Rattle.std.specs.Vec.{made};
+ghost use Rattle.draft.specs.Plain.{linesOf, added, mended, struck, Answered, PrintsLine};
+use crate::draft::Draft;
+use crate::draft::MOST_LINES;
+use fault::Fault;
+use fault::Flaw;
+use fault::Kind;
+use line::Line;
+use line::read;
+use std::alloc::AllocError;
+use std::alloc::Global;
+
+impl Draft {
+    // A draft without lines, or a refusal where there is no memory for 96.
+    pub fn new(heap: Global) -> Result<Draft, AllocError>
+        ensures { λ r. ⌜ made r (λ d. linesOf d ≡ []) ⌝ }
+    {
+        let lines = Vec::with_capacity(heap, MOST_LINES)?;
+        Ok(Draft { lines })
+    }
+
+    // How many lines there are.
+    pub fn len(&self) -> usize
+        ensures { λ r. ⌜ r ≡ length (linesOf (now (self .entry))) ⌝ }
+    {
+        self.lines.len()
+    }
+
+    // Puts the text last and answers its number.
+    pub fn add(&mut self, text: &[u8]) -> Result<usize, Fault>
+        ensures { λ r. ⌜ Answered (added (now (text .entry)) (linesOf (now (self .entry)))) r (linesOf (now (self .exit))) ⌝ }
+    {
+        let number = self.lines.len() + 1;
+        let line = match read(text) {
+            Ok(line) => line,
+            Err(flaw) => return Err(flaw.on(number)),
+        };
+        if number > MOST_LINES {
+            return Err(Fault {
+                kind: Kind::DraftFull,
+                line: number,
+                column: 0,
+            });
+        }
+        self.lines.push_reserved(line);
+        Ok(number)
+    }
+
+    // Puts the text in the place of the line of that number, and answers the number.
+    pub fn mend(&mut self, number: usize, text: &[u8]) -> Result<usize, Fault>
+        ensures { λ r. ⌜ Answered (mended number (now (text .entry)) (linesOf (now (self .entry)))) r (linesOf (now (self .exit))) ⌝ }
+    {
+        if number == 0 || number > self.lines.len() {
+            return Err(Fault {
+                kind: Kind::NoSuchLine,
+                line: number,
+                column: 0,
+            });
+        }
+        match read(text) {
+            Ok(line) => {
+                self.lines[number - 1] = line;
+                Ok(number)
+            }
+            Err(flaw) => Err(flaw.on(number)),
+        }
+    }
+
+    // Takes the last line away and answers the number that it had.
+    pub fn strike(&mut self) -> Result<usize, Fault>
+        ensures { λ r. ⌜ Answered (struck (linesOf (now (self .entry)))) r (linesOf (now (self .exit))) ⌝ }
+    {
+        let number = self.lines.len();
+        match self.lines.pop() {
+            Some(_) => Ok(number),
+            None => Err(Fault {
+                kind: Kind::NoSuchLine,
+                line: 0,
+                column: 0,
+            }),
+        }
+    }
+
+    // Writes the line of that number to the buffer's start and answers its length.
+    pub fn print(&self, number: usize, out: &mut [u8]) -> Result<usize, Fault>
+        ensures { λ r. ⌜ PrintsLine number (linesOf (now (self .entry))) (now (out .entry)) r (now (out .exit)) ⌝ }
+    {
+        if number == 0 || number > self.lines.len() {
+            return Err(Fault {
+                kind: Kind::NoSuchLine,
+                line: number,
+                column: 0,
+            });
+        }
+        let line: &Line = &self.lines[number - 1];
+        match line.print(out) {
+            Ok(size) => Ok(size),
+            Err(flaw) => Err(flaw.on(number)),
+        }
+    }
+}

@@ -1,0 +1,12 @@
+mod Answered
+mod Bounds
+mod Cuts
+mod Inks
+mod Made
+mod Pressed
+mod Runs
+mod Spelt
+mod Table
+mod Tokens
+mod Viable
+mod Walks

@@ -1,0 +1,10 @@
+use mathlib.Core.Path.{refl}
+use borrow.Author.Needs.{needs}
+use Rattle.line.proofs.Spelt.{past, unread}
+use Rattle.line.proofs.word.operator_of_pair.Needs as need
+
+pub returns-in-rest : need.returns-in-rest
+returns-in-rest c = unread _ _ _ _ _ (c .in-rest .ensures tt .cases .0) refl refl
+
+pub returns-in-rest-text : need.returns-in-rest-text
+returns-in-rest-text c = search (needs, past)

@@ -1,0 +1,9 @@
+pub mod Classes
+pub mod Grammar
+pub mod Names
+pub mod Pieces
+pub mod Ranges
+pub mod Readings
+pub mod Sheets
+pub mod States
+pub mod Words

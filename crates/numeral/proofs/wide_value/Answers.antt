@@ -1,0 +1,33 @@
+use mathlib.Core.Path.{sym, ap, subst, _≡_}
+use mathlib.Core.List.{List}
+use mathlib.Core.Bool.{true}
+use Prim.Native.Nat.{ℕ}
+use mir.Syntax.{w64}
+use borrow.Author.Needs.{needs}
+use mir.Val.{SFits, toZ, ofZ}
+use Rattle.std.specs.declared.option.Option.the-variants.{Some}
+use native.Mathlib.Omega.{arith}
+use Rattle.std.specs.Reads.{Numeral, afterSign, signedValue}
+use Rattle.numeral.specs.Numbers.{shaped, wideOf, Spelt}
+use Rattle.numeral.proofs.Numerals.{spelling, numeral}
+use Rattle.numeral.proofs.Numerals.{spelling-utf8, spelling-mag, spelt-none, wide-spelt}
+use Rattle.numeral.proofs.wide_value.Needs as need
+
+fits : (t u : List ℕ) → shaped t ≡ true → u ≡ t → (Numeral 10 (afterSign u) × SFits w64 (signedValue 10 u) → ⊥) → ⊥
+fits t u e q h =
+    let s = spelling t e in
+    subst (λ (x : List ℕ). Numeral 10 (afterSign x) × SFits w64 (signedValue 10 x) → ⊥) q h (numeral t s, record { sfits = omega (arith, spelling-mag t s) })
+
+pub unreachable-requires : need.unreachable-requires
+unreachable-requires c κs = fits _ _ (sym (c .if-not-has-shape .ensures tt)) (c .in-Ok .ensures tt .cases .0) (c .in-Err-parse .ensures tt .reads .0)
+
+pub unreachable-requires-in-Err : need.unreachable-requires-in-Err
+unreachable-requires-in-Err c κs = c .in-Err .ensures tt .cases .0 (spelling-utf8 _ (spelling _ (sym (c .if-not-has-shape .ensures tt))))
+
+pub returns-then-not-has-shape : need.returns-then-not-has-shape
+returns-then-not-has-shape c = record { value = search needs; spelt = spelt-none (c .args .text .now) (sym (c .if-not-has-shape .ensures tt)) }
+
+pub returns : need.returns
+returns c =
+    let e : Some (toZ w64 (ofZ w64 (c .in-Ok-parse .n))) ≡ wideOf (c .args .text .now) = search needs in
+    record { value = e; spelt = subst (Spelt (c .args .text .now)) (sym e) (wide-spelt (c .args .text .now)) }
