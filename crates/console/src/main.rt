@@ -1,22 +1,28 @@
-use draft::Draft;
-use fault::FaultDisplay;
-use std::error::AnyError;
+// The console: a draft typed in, mended and listed by commands, one a line.
+mod answer;
+mod command;
+mod session;
 
+use session::talk;
+use std::env;
+use std::error::AnyError;
+use std::fs::File;
+use std::io::BufReader;
+
+// Commands come from the file that is named, or else from standard input.
 fn run(rt: &LibcRuntime) -> Result<(), AnyError> {
-    let mut d = Draft::new(rt.alloc())?;
-    let a = d.add(b"in n = get -> test");
-    let b = d.add(b"a b = 1 + -> c");
-    match a {
-        Ok(n) => println!(rt, "{n}")?,
-        Err(f) => println!(rt, "refused {f}")?
+    let mut args = env::args(rt)?;
+    let _program = args.next();
+    let Some(path) = args.next() else {
+        return talk(rt, rt.alloc(), BufReader::new(rt.stdin()));
+    };
+    if args.next().is_some() {
+        return Err("at most one file can be named".into());
     }
-    ;
-    match b {
-        Ok(n) => println!(rt, "{n}")?,
-        Err(f) => println!(rt, "refused {f}")?
+    match File::open(rt, path.as_str()) {
+        Ok(file) => talk(rt, rt.alloc(), BufReader::new(file)),
+        Err(e) => Err(format!(rt.alloc(), "{path}: {e}")?.into()),
     }
-    ;
-    Ok(())
 }
 
 fn main(rt: LibcRuntime) -> Result<(), AnyError> {

@@ -1,2 +1,2 @@
 mod Feeding
-mod Printing
+mod Numbered

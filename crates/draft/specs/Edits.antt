@@ -1,4 +1,5 @@
 -- Lists of edits, fed to a plain list. Assumes nothing.
+use mathlib.Core.Path.{_≡_}
 use mathlib.Core.List.{List, [], _∷_}
 use Prim.Native.Nat.{ℕ}
 use Rattle.std.specs.declared.result.Result.{Result}
@@ -21,3 +22,7 @@ fed (e ∷ es) ls = fed es (edited e ls .lines)
 abbrev pub answers : List Edit → Lines → List (Result ℕ Fault)
 answers [] ls = []
 answers (e ∷ es) ls = edited e ls .answer ∷ answers es (edited e ls .lines)
+
+-- the edits, fed to a list of lines, lead to these lines and these answers
+abbrev pub Fed : List Edit → Lines → Lines → List (Result ℕ Fault) → Type 0
+Fed es ls after said = (after ≡ fed es ls) × (said ≡ answers es ls)

@@ -4,7 +4,7 @@ ghost use mathlib.Core.List.{[]};
 ghost use Rattle.std.specs.Of.Vec.{vec-items};
 ghost use Rattle.std.specs.Vec.{made};
 ghost use Rattle.draft.specs.Plain.{linesOf, Answered};
-ghost use Rattle.draft.specs.Edits.{edited, fed, answers};
+ghost use Rattle.draft.specs.Edits.{edited, Fed};
 use crate::draft::Draft;
 use fault::Fault;
 use std::alloc::AllocError;
@@ -37,14 +37,26 @@ impl Draft {
     }
 }
 
+impl Draft {
+    // Feeds the edits, in their order, to the draft.
+    fn fed(mut self, heap: Global, edits: &[Edit<'_>]) -> Result<Replayed, AllocError>
+        ensures { λ r. ⌜ made r (λ p. Fed (now (edits .entry)) (linesOf self) (linesOf (p .draft)) (vec-items (p .answers))) ⌝ }
+    {
+        let mut answers = Vec::new(heap);
+        for edit in edits {
+            answers.push(self.apply(*edit))?;
+        }
+        Ok(Replayed {
+            draft: self,
+            answers,
+        })
+    }
+}
+
 // Feeds the edits, in their order, to a draft that opens empty.
 pub fn replay(heap: Global, edits: &[Edit<'_>]) -> Result<Replayed, AllocError>
-    ensures { λ r. ⌜ made r (λ p. (linesOf (p .draft) ≡ fed (now (edits .entry)) []) × (vec-items (p .answers) ≡ answers (now (edits .entry)) [])) ⌝ }
+    ensures { λ r. ⌜ made r (λ p. Fed (now (edits .entry)) [] (linesOf (p .draft)) (vec-items (p .answers))) ⌝ }
 {
-    let mut draft = Draft::new(heap)?;
-    let mut answers = Vec::new(heap);
-    for edit in edits {
-        answers.push(draft.apply(*edit))?;
-    }
-    Ok(Replayed { draft, answers })
+    let draft = Draft::new(heap)?;
+    draft.fed(heap, edits)
 }

@@ -1,5 +1,7 @@
 // Refusals: what is wrong, of which layer, under which number, and where.
 ghost use mathlib.Core.Path.{_≡_};
+ghost use Rattle.std.specs.declared.option.Option.the-variants.{Some};
+ghost use Rattle.fault.specs.Shown.{layerText, faultText};
 ghost use Rattle.fault.specs.Table.{layerOf, numberOf, placed};
 use std::fmt;
 
@@ -89,6 +91,8 @@ impl Flaw {
 }
 
 pub impl fmt::Display for Layer as LayerDisplay {
+    ghost shown = { λ l. Some (layerText l) };
+
     fn fmt<W: fmt::Write>(&self, f: &mut fmt::Formatter<W>) -> fmt::Result {
         match self {
             Layer::Text => f.write_str("text"),
@@ -116,6 +120,8 @@ pub impl fmt::Display for Kind as KindDisplay {
 
 // Layer, number, line and column, in this order.
 pub impl fmt::Display for Fault as FaultDisplay {
+    ghost shown = { λ f. Some (faultText f) };
+
     fn fmt<W: fmt::Write>(&self, f: &mut fmt::Formatter<W>) -> fmt::Result {
         let layer = self.kind.layer();
         let number = self.kind.number();

@@ -2,8 +2,8 @@
 ghost use mathlib.Core.Path.{_≡_};
 ghost use Rattle.line.specs.Classes.{classOf, foreignAt};
 
-#[derive(Clone, Copy, PartialEq, Eq, Debug)]
-pub enum Class {
+#[derive(Clone, Copy)]
+pub(crate) enum Class {
     Space,
     Letter,
     Digit,
@@ -270,7 +270,7 @@ const CLASSES: [Class; 256] = [
     Class::Foreign,
 ];
 
-pub fn class_of(byte: u8) -> Class
+pub(crate) fn class_of(byte: u8) -> Class
     ensures { λ r. ⌜ r ≡ classOf byte ⌝ }
 {
     let table: &[Class; 256] = &CLASSES;

@@ -11,8 +11,6 @@ mod syntax;
 mod variable;
 mod word;
 
-pub use class::Class;
-pub use class::class_of;
 pub use label::Label;
 pub use print::LONGEST;
 pub use reader::read;

@@ -124,10 +124,26 @@ fn put_statement(sheet: &mut Sheet, statement: Statement)
     }
 }
 
+// Copies the text to the buffer's start and answers its length.
+fn copy_out(text: &[u8], out: &mut [u8]) -> Result<usize, Flaw>
+    ensures { λ r. ⌜ Prints (now (text .entry)) (now (out .entry)) r (now (out .exit)) ⌝ }
+{
+    let size = text.len();
+    if out.len() < size {
+        return Err(Flaw {
+            kind: Kind::ShortBuffer,
+            column: 0,
+        });
+    }
+    out[0..size].copy_from_slice(text);
+    Ok(size)
+}
+
 impl Line {
-    // Writes the line to the buffer's start and answers its length.
-    pub fn print(&self, out: &mut [u8]) -> Result<usize, Flaw>
-        ensures prints { λ r. ⌜ Prints (printed (now (self .entry))) (now (out .entry)) r (now (out .exit)) ⌝ }
+    // The line's text.
+    fn written(&self) -> Sheet
+        ensures ink { λ r. ⌜ inkOf r ≡ printed (now (self .entry)) ⌝ }
+        ensures len { λ r. ⌜ r .len ≤ 51 ⌝ }
         ensures longest { λ r. ⌜ length (printed (now (self .entry))) ≤ 51 ⌝ }
         ensures back { λ r. ⌜ reading (printed (now (self .entry))) ≡ Ok (now (self .entry)) ⌝ }
     {
@@ -137,15 +153,16 @@ impl Line {
         };
         sheet.push_all(self.label.text());
         put_statement(&mut sheet, self.statement);
-        let text = sheet.text();
-        let size = text.len();
-        if out.len() < size {
-            return Err(Flaw {
-                kind: Kind::ShortBuffer,
-                column: 0,
-            });
-        }
-        out[0..size].copy_from_slice(text);
-        Ok(size)
+        sheet
+    }
+
+    // Writes the line to the buffer's start and answers its length.
+    pub fn print(&self, out: &mut [u8]) -> Result<usize, Flaw>
+        ensures prints { λ r. ⌜ Prints (printed (now (self .entry))) (now (out .entry)) r (now (out .exit)) ⌝ }
+        ensures longest { λ r. ⌜ length (printed (now (self .entry))) ≤ 51 ⌝ }
+        ensures back { λ r. ⌜ reading (printed (now (self .entry))) ≡ Ok (now (self .entry)) ⌝ }
+    {
+        let sheet = self.written();
+        copy_out(sheet.text(), out)
     }
 }

@@ -1,6 +1,6 @@
 // A line from its text, or the first flaw in it.
 ghost use mathlib.Core.Path.{_≡_};
-ghost use Rattle.line.specs.Readings.{reading, Reads};
+ghost use Rattle.line.specs.Readings.{reading, Clean, Reads};
 use crate::class::first_foreign;
 use crate::parse::parse;
 use crate::range::first_beyond;
@@ -18,16 +18,12 @@ fn flaw(kind: Kind, column: usize) -> Flaw
     Flaw { kind, column }
 }
 
-pub fn read(text: &[u8]) -> Result<Line, Flaw>
+// A text of at most 80 bytes, none of them foreign.
+fn read_clean(text: &[u8]) -> Result<Line, Flaw>
+    requires { ⌜ Clean (now text) ⌝ }
     ensures value { λ r. ⌜ r ≡ reading (now (text .entry)) ⌝ }
     ensures grammar { λ r. ⌜ Reads (now (text .entry)) r ⌝ }
 {
-    if text.len() > MOST {
-        return Err(flaw(Kind::TooLong, MOST + 1));
-    }
-    if let Some(column) = first_foreign(text) {
-        return Err(flaw(Kind::ForeignByte, column));
-    }
     match parse(text) {
         Err(column) => Err(flaw(Kind::NotALine, column)),
         Ok(wide) => match first_beyond(text) {
@@ -37,5 +33,19 @@ pub fn read(text: &[u8]) -> Result<Line, Flaw>
                 None => unreachable(),
             },
         },
+    }
+}
+
+// The line that the text spells, or the first flaw that fits.
+pub fn read(text: &[u8]) -> Result<Line, Flaw>
+    ensures value { λ r. ⌜ r ≡ reading (now (text .entry)) ⌝ }
+    ensures grammar { λ r. ⌜ Reads (now (text .entry)) r ⌝ }
+{
+    if text.len() > MOST {
+        return Err(flaw(Kind::TooLong, MOST + 1));
+    }
+    match first_foreign(text) {
+        Some(column) => Err(flaw(Kind::ForeignByte, column)),
+        None => read_clean(text),
     }
 }

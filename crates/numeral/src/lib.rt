@@ -1,7 +1,9 @@
 // Numbers as text: `0`, or an optional `-`, a digit 1 to 9 and at most nine more digits.
 ghost use mathlib.Core.Path.{_≡_};
 ghost use Rattle.std.specs.shelf.Text.{allDigits};
-ghost use Rattle.numeral.specs.Numbers.{leads, shaped, wideOf, numeralOf, Spelt};
+ghost use mathlib.Core.Bool.{true, false};
+ghost use Rattle.std.specs.declared.option.Option.the-variants.{Some, None};
+ghost use Rattle.numeral.specs.Numbers.{leads, shaped, intOf, wideOf, numeralOf, Spelt};
 use std::str::from_utf8;
 
 // What a text is as a number of 32 signed bits.
@@ -45,20 +47,38 @@ fn has_shape(text: &[u8]) -> bool
     }
 }
 
+// Whether the text spells a number of at most ten digits.
+fn is_number(text: &[u8]) -> bool
+    ensures value { λ r. ⌜ r ≡ shaped (now (text .entry)) ⌝ }
+    ensures none { λ r. ⌜ (r ≡ false → Spelt (now (text .entry)) None) ⌝ }
+{
+    has_shape(text)
+}
+
+// The number that such a text spells.
+fn spelt_number(text: &[u8]) -> i64
+    requires { ⌜ shaped (now text) ≡ true ⌝ }
+    ensures value { λ r. ⌜ r ≡ intOf (now (text .entry)) ⌝ }
+    ensures spelt { λ r. ⌜ Spelt (now (text .entry)) (Some r) ⌝ }
+{
+    match from_utf8(text) {
+        Ok(digits) => match digits.parse::<i64>() {
+            Ok(n) => n,
+            Err(_) => unreachable(),
+        },
+        Err(_) => unreachable(),
+    }
+}
+
 // The number of at most ten digits that the text spells.
 pub fn wide_value(text: &[u8]) -> Option<i64>
     ensures value { λ r. ⌜ r ≡ wideOf (now (text .entry)) ⌝ }
     ensures spelt { λ r. ⌜ Spelt (now (text .entry)) r ⌝ }
 {
-    if !has_shape(text) {
-        return None;
-    }
-    match from_utf8(text) {
-        Ok(digits) => match digits.parse::<i64>() {
-            Ok(n) => Some(n),
-            Err(_) => unreachable(),
-        },
-        Err(_) => unreachable(),
+    if is_number(text) {
+        Some(spelt_number(text))
+    } else {
+        None
     }
 }
 

@@ -2,8 +2,9 @@
 ghost use mathlib.Core.Path.{_≡_};
 ghost use mathlib.Core.List.{[]};
 ghost use lib.ListN.{length};
+ghost use Rattle.std.specs.Options.{mapped};
 ghost use Rattle.std.specs.Vec.{made};
-ghost use Rattle.draft.specs.Plain.{linesOf, added, mended, struck, Answered, PrintsLine};
+ghost use Rattle.draft.specs.Plain.{linesOf, added, mended, struck, lineAt, Answered, PrintsLine};
 use crate::draft::Draft;
 use crate::draft::MOST_LINES;
 use fault::Fault;
@@ -30,11 +31,21 @@ impl Draft {
         self.lines.len()
     }
 
+    // The line of that number.
+    fn line(&self, number: usize) -> Option<&Line>
+        ensures { λ r. ⌜ mapped now r ≡ lineAt number (linesOf (now (self .entry))) ⌝ }
+    {
+        if number == 0 || number > self.len() {
+            return None;
+        }
+        Some(&self.lines[number - 1])
+    }
+
     // Puts the text last and answers its number.
     pub fn add(&mut self, text: &[u8]) -> Result<usize, Fault>
         ensures { λ r. ⌜ Answered (added (now (text .entry)) (linesOf (now (self .entry)))) r (linesOf (now (self .exit))) ⌝ }
     {
-        let number = self.lines.len() + 1;
+        let number = self.len() + 1;
         let line = match read(text) {
             Ok(line) => line,
             Err(flaw) => return Err(flaw.on(number)),
@@ -54,7 +65,7 @@ impl Draft {
     pub fn mend(&mut self, number: usize, text: &[u8]) -> Result<usize, Fault>
         ensures { λ r. ⌜ Answered (mended number (now (text .entry)) (linesOf (now (self .entry)))) r (linesOf (now (self .exit))) ⌝ }
     {
-        if number == 0 || number > self.lines.len() {
+        if number == 0 || number > self.len() {
             return Err(Fault {
                 kind: Kind::NoSuchLine,
                 line: number,
@@ -74,7 +85,7 @@ impl Draft {
     pub fn strike(&mut self) -> Result<usize, Fault>
         ensures { λ r. ⌜ Answered (struck (linesOf (now (self .entry)))) r (linesOf (now (self .exit))) ⌝ }
     {
-        let number = self.lines.len();
+        let number = self.len();
         match self.lines.pop() {
             Some(_) => Ok(number),
             None => Err(Fault {
@@ -89,17 +100,16 @@ impl Draft {
     pub fn print(&self, number: usize, out: &mut [u8]) -> Result<usize, Fault>
         ensures { λ r. ⌜ PrintsLine number (linesOf (now (self .entry))) (now (out .entry)) r (now (out .exit)) ⌝ }
     {
-        if number == 0 || number > self.lines.len() {
-            return Err(Fault {
+        match self.line(number) {
+            None => Err(Fault {
                 kind: Kind::NoSuchLine,
                 line: number,
                 column: 0,
-            });
-        }
-        let line: &Line = &self.lines[number - 1];
-        match line.print(out) {
-            Ok(size) => Ok(size),
-            Err(flaw) => Err(flaw.on(number)),
+            }),
+            Some(line) => match line.print(out) {
+                Ok(size) => Ok(size),
+                Err(flaw) => Err(flaw.on(number)),
+            },
         }
     }
 }

@@ -1,0 +1,8 @@
+use mathlib.Core.Path.{sym, _∙_}
+use borrow.Author.Needs.{needs}
+use borrow.Author.Tests.{true-eqb}
+use Rattle.console.proofs.Names.{nothing-left}
+use Rattle.console.proofs.command.mend_of.Needs as need
+
+pub returns-then-is-empty : need.returns-then-is-empty
+returns-then-is-empty c = sym (c .cut .ensures .word) ∙ nothing-left _ (true-eqb _ 0 (c .if-is-empty .ensures tt))
