@@ -4,7 +4,9 @@ ghost use Rattle.console.specs.Shows.{visibleOf};
 use crate::command::Reason;
 use fault::Fault;
 use fault::FaultDisplay;
+use fault::Kind;
 use fault::KindDisplay;
+use fault::KindPartialEq;
 use std::fmt;
 
 pub(crate) const HELP: &str = "add TEXT     put TEXT last, as a new line
@@ -50,13 +52,25 @@ pub(crate) struct Refusal<'a> {
     pub(crate) text: &'a [u8],
 }
 
+impl Refusal<'_> {
+    // Whether the tokens begin a line, and there are too few of them.
+    fn stops_early(&self) -> bool {
+        self.fault.kind == Kind::NotALine && self.fault.column > self.text.len()
+    }
+}
+
 // Where a column has a meaning, the text stands below the words, with a mark under the column.
 pub(crate) impl fmt::Display for Refusal<'_> as RefusalDisplay {
     fn fmt<W: fmt::Write>(&self, f: &mut fmt::Formatter<W>) -> fmt::Result {
         let fault = self.fault;
         let kind = fault.kind;
         let column = fault.column;
-        write!(f, "refused {fault}\n    {kind}")?;
+        write!(f, "refused {fault}\n    ")?;
+        if self.stops_early() {
+            f.write_str("the text stops too early to be a line")?;
+        } else {
+            write!(f, "{kind}")?;
+        }
         if column > 0 {
             let text = Shown(self.text);
             let mark = '^';

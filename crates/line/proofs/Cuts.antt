@@ -6,30 +6,26 @@ use mathlib.Core.List.{List, [], _∷_}
 use Prim.Native.Nat.{ℕ, suc, _+_, _-_, _<_, _≤_}
 use native.Mathlib.Nat.{le-refl}
 use Rattle.std.proofs.shelf.Parts.{between-to-end}
-use native.Mathlib.Numerals.{add-one}
 use native.Mathlib.Omega.{arith}
 use lib.Dec.{eqb}
 use lib.ListN.{length, getD, take, drop}
-use lib.Seq.{drop-cons}
+use Rattle.std.proofs.shelf.Lists.{drop-more}
 use Rattle.std.proofs.shelf.Tests.{eq-eqb, ne-eqb, cases-bool}
 use Rattle.std.specs.declared.option.Option.the-variants.{Some, None}
 use Rattle.line.specs.declared.cursor.Token.{Token}
 use Rattle.line.specs.Pieces.{isBlank, blanks, inked, Piece, runsOn, grown, pieces, Next}
 
-pub at-drop : (s : List ℕ) (i : ℕ) → i < length s → drop i s ≡ getD s i 0 ∷ drop (i + 1) s
-at-drop s i h = rw (add-one, drop-cons s i 0)
-
 pub blank-more : (s : List ℕ) (i : ℕ) → i < length s → getD s i 0 ≡ 32 → blanks (drop i s) ≡ suc (blanks (drop (i + 1) s))
-blank-more s i h e = rw (at-drop s i h) (rw (eq-eqb (getD s i 0) 32 e))
+blank-more s i h e = rw (drop-more s i 0 h) (rw (eq-eqb (getD s i 0) 32 e))
 
 pub blank-stops : (s : List ℕ) (i : ℕ) → i < length s → (getD s i 0 ≡ 32 → ⊥) → blanks (drop i s) ≡ 0
-blank-stops s i h e = rw (at-drop s i h) (rw (ne-eqb (getD s i 0) 32 e))
+blank-stops s i h e = rw (drop-more s i 0 h) (rw (ne-eqb (getD s i 0) 32 e))
 
 pub ink-more : (s : List ℕ) (i : ℕ) → i < length s → (getD s i 0 ≡ 32 → ⊥) → inked (drop i s) ≡ suc (inked (drop (i + 1) s))
-ink-more s i h e = rw (at-drop s i h) (rw (ne-eqb (getD s i 0) 32 e))
+ink-more s i h e = rw (drop-more s i 0 h) (rw (ne-eqb (getD s i 0) 32 e))
 
 pub ink-stops : (s : List ℕ) (i : ℕ) → i < length s → getD s i 0 ≡ 32 → inked (drop i s) ≡ 0
-ink-stops s i h e = rw (at-drop s i h) (rw (eq-eqb (getD s i 0) 32 e))
+ink-stops s i h e = rw (drop-more s i 0 h) (rw (eq-eqb (getD s i 0) 32 e))
 
 -- leading spaces make no token
 skip : (c : ℕ) (bs : List ℕ) → pieces c bs ≡ pieces (c + blanks bs) (drop (blanks bs) bs)

@@ -2,10 +2,11 @@ mod Answered
 mod Bounds
 mod Cuts
 mod Inks
+mod Longest
 mod Made
 mod Pressed
 mod Runs
-mod Spelt
+pub mod Spelt
 mod Table
 mod Tokens
 mod Viable

@@ -1,4 +1,4 @@
--- What a token is not, and the steps of the tests on one. Assumes nothing.
+-- A text that is not a spelling falls through to the next case. Assumes nothing.
 use mathlib.Core.Path.{_≡_, refl, sym, ap, subst, _∙_}
 use mathlib.Core.Logic.{⊎-elim}
 use mathlib.Core.Bool.{Bool, true, false, cond, _&&_}
@@ -12,8 +12,6 @@ use Rattle.std.proofs.shelf.Ascii.{ascii-nil, ascii-cons}
 use Rattle.std.proofs.shelf.Equals.{sameBytes-decides}
 use Rattle.std.proofs.shelf.Tests.{cases-bool, ltb-true, and-parts}
 use Rattle.std.proofs.shelf.Text.{utf8-from-ascii}
-use Rattle.line.specs.Names.{allLetters}
-use Rattle.line.proofs.Cuts.{at-drop}
 
 pub differs : (t w : List ℕ) → (t ≡ w → ⊥) → sameBytes t w ≡ false
 differs t w h = ⊎-elim (λ e. absurd (h (sameBytes-decides t w .0 e))) (λ e. e) (cases-bool (sameBytes t w))
@@ -33,12 +31,3 @@ ascii-low (b ∷ bs) e = let p = and-parts (ltb b 128) (low bs) e in ascii-cons 
 -- and so does one that is no text
 pub unread : {A : Type 0} (t w : List ℕ) (x y z : A) → (Utf8 t → ⊥) → low w ≡ true → z ≡ y → z ≡ cond (sameBytes t w) x y
 unread t w x y z h l e = past t w x y z (λ q. h (subst Utf8 (sym q) (utf8-from-ascii w (ascii-low w l)))) e
-
-letters-step : (s : List ℕ) (i : ℕ) → i < length s → allLetters (drop i s) ≡ (asciiLower (getD s i 0) && allLetters (drop (i + 1) s))
-letters-step s i h = rw (at-drop s i h)
-
-pub letters-past : (s : List ℕ) (i : ℕ) → i < length s → true ≡ asciiLower (getD s i 0) → allLetters (drop i s) ≡ allLetters (drop (i + 1) s)
-letters-past s i h e = letters-step s i h ∙ ap (λ t. t && allLetters (drop (i + 1) s)) (sym e)
-
-pub letters-stop : (s : List ℕ) (i : ℕ) → i < length s → false ≡ asciiLower (getD s i 0) → allLetters (drop i s) ≡ false
-letters-stop s i h e = letters-step s i h ∙ ap (λ t. t && allLetters (drop (i + 1) s)) (sym e)

@@ -4,7 +4,7 @@ ghost use Prim.Native.Nat.{ℕ, _+_, _^_, _<_, _≤_};
 ghost use lib.ListN.{length};
 ghost use mathlib.Core.Bool.{true};
 ghost use Rattle.std.specs.Options.{isSome};
-ghost use Rattle.line.specs.Pieces.{blanks, inked, ahead, Next};
+ghost use Rattle.line.specs.Pieces.{blanks, inked, ahead, Next, Runs};
 
 #[derive(Clone, Copy)]
 pub(crate) struct Token<'a> {
@@ -44,6 +44,18 @@ fn run(s: &[u8]) -> usize
 }
 
 impl<'a> Cursor<'a> {
+    // At the start of a line, whose tokens are its longest runs without spaces.
+    pub(crate) fn new(line: &'a [u8]) -> Cursor<'a>
+        ensures rest { λ r. ⌜ r .rest .now ≡ now (line .entry) ⌝ }
+        ensures column { λ r. ⌜ r .column ≡ 1 ⌝ }
+        ensures tokens { λ r. ⌜ Runs 1 (now (line .entry)) (ahead r) ⌝ }
+    {
+        Cursor {
+            rest: line,
+            column: 1,
+        }
+    }
+
     // The next token, or none where only spaces are left.
     pub(crate) fn next(&mut self) -> Option<Token<'a>>
         requires { ⌜ now self .column + length (now (now self .rest)) < 2 ^ 64 ⌝ }

@@ -173,10 +173,7 @@ pub(crate) fn parse(text: &[u8]) -> Result<Line<i64>, usize>
     requires { ⌜ length (now text) < 2 ^ 63 ⌝ }
     ensures { λ r. ⌜ r ≡ parsed (now (text .entry)) ⌝ }
 {
-    let mut cursor = Cursor {
-        rest: text,
-        column: 1,
-    };
+    let mut cursor = Cursor::new(text);
     let label = take_label(&mut cursor)?;
     let head = take_statement(&mut cursor)?;
     let statement = take_successors(&mut cursor, head)?;

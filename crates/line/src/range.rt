@@ -26,10 +26,7 @@ pub(crate) fn first_beyond(text: &[u8]) -> Option<usize>
     requires { ⌜ length (now text) < 2 ^ 63 ⌝ }
     ensures { λ r. ⌜ r ≡ beyondAt (pieces 1 (now (text .entry))) ⌝ }
 {
-    let mut cursor = Cursor {
-        rest: text,
-        column: 1,
-    };
+    let mut cursor = Cursor::new(text);
     while let Some(token) = cursor.next() {
         if beyond(token.text) {
             return Some(token.column);

@@ -24,18 +24,6 @@ use Rattle.std.specs.Reads.{value, Numeral, afterSign, signedValue}
 use mathlib.Core.Logic.{⊎-elim}
 use Rattle.numeral.specs.Numbers.{leads, isEmpty, shaped, intOf, wideOf, Short, Spelt}
 
-at-drop : (s : List ℕ) (i : ℕ) → i < length s → drop i s ≡ getD s i 0 ∷ drop (i + 1) s
-at-drop s i h = rw (add-one, drop-cons s i 0)
-
-pub digits-step : (s : List ℕ) (i : ℕ) → i < length s → allDigits (drop i s) ≡ (asciiDigit (getD s i 0) && allDigits (drop (i + 1) s))
-digits-step s i h = rw (at-drop s i h)
-
-pub digits-past : (s : List ℕ) (i : ℕ) → i < length s → true ≡ asciiDigit (getD s i 0) → allDigits (drop i s) ≡ allDigits (drop (i + 1) s)
-digits-past s i h e = digits-step s i h ∙ ap (λ t. t && allDigits (drop (i + 1) s)) (sym e)
-
-pub digits-stop : (s : List ℕ) (i : ℕ) → i < length s → false ≡ asciiDigit (getD s i 0) → allDigits (drop i s) ≡ false
-digits-stop s i h e = digits-step s i h ∙ ap (λ t. t && allDigits (drop (i + 1) s)) (sym e)
-
 after : (d : ℕ) (ds : List ℕ) → take (length (d ∷ ds) - 1) (drop 1 (d ∷ ds)) ≡ ds
 after d ds = between-to-end (d ∷ ds) 1 (length (d ∷ ds)) (le-refl (length (d ∷ ds)))
 

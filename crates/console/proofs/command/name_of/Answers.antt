@@ -1,6 +1,6 @@
 use mathlib.Core.Path.{refl}
 use borrow.Author.Needs.{needs}
-use Rattle.console.proofs.Names.{past, unread}
+use Rattle.line.proofs.Spelt.{past, unread}
 use Rattle.console.proofs.command.name_of.Needs as need
 
 pub returns-in-rest : need.returns-in-rest

@@ -1,5 +1,5 @@
 use borrow.Author.Needs.{needs}
-use Rattle.console.proofs.Names.{no-plus, utf8-digits}
+use Rattle.console.proofs.Digits.{no-plus, utf8-digits}
 use Rattle.console.proofs.command.number_of.Needs as need
 
 pub returns-in-43 : need.returns-in-43

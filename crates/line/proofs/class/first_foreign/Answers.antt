@@ -5,11 +5,10 @@ use Prim.Native.Nat.{ℕ, _+_, _<_}
 use native.Mathlib.Omega.{arith}
 use lib.ListN.{length, getD, drop}
 use Rattle.std.specs.declared.option.Option.the-variants.{Some}
-use Rattle.std.proofs.shelf.Lists.{drop-all}
+use Rattle.std.proofs.shelf.Lists.{drop-more, drop-all}
 use Rattle.line.specs.declared.class.Class.{Class}
 use Rattle.line.specs.declared.class.Class.the-variants.{Space, Letter, Digit, Sign, Foreign}
 use Rattle.line.specs.Classes.{classOf, isForeign, foreignAt}
-use Rattle.line.proofs.Cuts.{at-drop}
 use Rattle.line.proofs.class.first_foreign.Needs as need
 
 other : (k : Class) → (k ≡ Foreign → ⊥) → isForeign k ≡ false
@@ -20,7 +19,7 @@ other Digit h = refl
 other Sign h = refl
 
 step : (s : List ℕ) (i : ℕ) → i < length s → foreignAt (i + 1) (drop i s) ≡ cond (isForeign (classOf (getD s i 0))) (Some (i + 1)) (foreignAt (i + 1 + 1) (drop (i + 1) s))
-step s i h = ap (foreignAt (i + 1)) (at-drop s i h)
+step s i h = ap (foreignAt (i + 1)) (drop-more s i 0 h)
 
 here : (s : List ℕ) (i : ℕ) → i < length s → Foreign ≡ classOf (getD s i 0) → foreignAt (i + 1) (drop i s) ≡ Some (i + 1)
 here s i h e = step s i h ∙ ap (λ k. cond (isForeign k) (Some (i + 1)) (foreignAt (i + 1 + 1) (drop (i + 1) s))) (sym e)
