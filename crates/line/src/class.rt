@@ -11,7 +11,9 @@ pub(crate) enum Class {
     Foreign,
 }
 
+// By the byte; a remark stands where a run of bytes of one class begins.
 const CLASSES: [Class; 256] = [
+    // 0 to 31
     Class::Foreign,
     Class::Foreign,
     Class::Foreign,
@@ -44,22 +46,32 @@ const CLASSES: [Class; 256] = [
     Class::Foreign,
     Class::Foreign,
     Class::Foreign,
+    // 32
     Class::Space,
+    // 33 to 36
     Class::Foreign,
     Class::Foreign,
     Class::Foreign,
     Class::Foreign,
+    // 37 `%` to 38 `&`
     Class::Sign,
     Class::Sign,
+    // 39 to 41
     Class::Foreign,
     Class::Foreign,
     Class::Foreign,
+    // 42 `*` to 43 `+`
     Class::Sign,
     Class::Sign,
+    // 44
     Class::Foreign,
+    // 45 `-`
     Class::Sign,
+    // 46
     Class::Foreign,
+    // 47 `/`
     Class::Sign,
+    // 48 `0` to 57 `9`
     Class::Digit,
     Class::Digit,
     Class::Digit,
@@ -70,11 +82,14 @@ const CLASSES: [Class; 256] = [
     Class::Digit,
     Class::Digit,
     Class::Digit,
+    // 58 to 59
     Class::Foreign,
     Class::Foreign,
+    // 60 `<` to 62 `>`
     Class::Sign,
     Class::Sign,
     Class::Sign,
+    // 63 to 96
     Class::Foreign,
     Class::Foreign,
     Class::Foreign,
@@ -109,6 +124,7 @@ const CLASSES: [Class; 256] = [
     Class::Foreign,
     Class::Foreign,
     Class::Foreign,
+    // 97 `a` to 122 `z`
     Class::Letter,
     Class::Letter,
     Class::Letter,
@@ -135,6 +151,7 @@ const CLASSES: [Class; 256] = [
     Class::Letter,
     Class::Letter,
     Class::Letter,
+    // 123 to 255
     Class::Foreign,
     Class::Foreign,
     Class::Foreign,
