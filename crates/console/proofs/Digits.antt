@@ -1,22 +1,14 @@
 -- The digits of a line number. Assumes nothing.
-use mathlib.Core.Path.{_≡_, refl, sym, ap, subst, _∙_}
-use mathlib.Core.Logic.{⊎-elim}
-use mathlib.Core.Bool.{Bool, true, false, cond, _&&_}
+use mathlib.Core.Path.{_≡_}
 use mathlib.Core.List.{List, [], _∷_}
-use Prim.Native.Nat.{ℕ, _+_, _<_, _≤_}
+use Prim.Native.Nat.{ℕ}
 use native.Mathlib.Omega.{arith}
-use lib.Dec.{eqb, ltb}
-use lib.ListN.{length, getD, drop}
+use lib.ListN.{getD}
 use Rattle.std.specs.Reads.{Digits, Numeral}
-use Rattle.std.specs.Text.{Utf8, Ascii, In}
-use Rattle.std.specs.shelf.Text.{sameBytes}
+use Rattle.std.specs.Text.{Utf8, Ascii}
 use Rattle.std.proofs.shelf.Ascii.{ascii-nil, ascii-cons}
-use Rattle.std.proofs.shelf.Equals.{sameBytes-decides}
-use Rattle.std.proofs.shelf.Lists.{drop-more}
 use Rattle.std.proofs.shelf.Numerals.{digit-from-value, digit-at}
-use Rattle.std.proofs.shelf.Tests.{cases-bool, ltb-true, and-parts, eq-eqb, ne-eqb}
 use Rattle.std.proofs.shelf.Text.{utf8-from-ascii}
-use Rattle.console.specs.Commands.{allBlank}
 
 ascii-digits : (ds : List ℕ) → Digits 10 ds → Ascii ds
 ascii-digits [] h = ascii-nil
@@ -25,10 +17,6 @@ ascii-digits (d ∷ ds) h = let i = digit-from-value d (h .0) in ascii-cons d ds
 -- digits are text
 pub utf8-digits : (ds : List ℕ) → Digits 10 ds → Utf8 ds
 utf8-digits ds h = utf8-from-ascii ds (ascii-digits ds h)
-
-pub nothing-left : (s : List ℕ) → length s ≡ 0 → s ≡ []
-nothing-left [] h = refl
-nothing-left (b ∷ bs) h = absurd (omega (arith, h))
 
 -- digits begin with no plus
 pub no-plus : (ds : List ℕ) → Numeral 10 ds → getD ds 0 0 ≡ 43 → ⊥

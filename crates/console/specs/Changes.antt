@@ -1,17 +1,16 @@
 -- What a line of input does to the draft. Assumes nothing.
 use mathlib.Core.Path.{_≡_}
 use Rattle.std.specs.declared.result.Result.the-variants.{Ok, Err}
-use Rattle.draft.specs.Plain.{Lines, added, mended, struck}
+use Rattle.draft.specs.Plain.{Lines}
+use Rattle.draft.specs.Edits.{edited}
 use Rattle.console.specs.declared.command.Command.{Command}
-use Rattle.console.specs.declared.command.Command.the-variants.{Nothing, Add, Mend, Strike, List, Help}
+use Rattle.console.specs.declared.command.Command.the-variants.{Nothing, Edit, List, Help}
 use Rattle.console.specs.Commands.{Text, Answer, Asks}
 
 -- the lines after a command
 abbrev pub changed : Command → Lines → Lines
 changed Nothing ls = ls
-changed (Add t) ls = added (t .now) ls .lines
-changed (Mend n t) ls = mended n (t .now) ls .lines
-changed Strike ls = struck ls .lines
+changed (Edit e) ls = edited e ls .lines
 changed List ls = ls
 changed Help ls = ls
 

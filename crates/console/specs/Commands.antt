@@ -13,6 +13,7 @@ use Rattle.std.specs.declared.option.Option.the-variants.{Some, None}
 use Rattle.std.specs.declared.result.Result.{Result}
 use Rattle.std.specs.declared.result.Result.the-variants.{Ok, Err}
 use Rattle.std.specs.shelf.Text.{sameBytes}
+use Rattle.draft.specs.declared.edit.Edit.the-variants as edit
 use Rattle.console.specs.declared.command.Command.{Command}
 use Rattle.console.specs.declared.command.Command.the-variants as asks
 use Rattle.console.specs.declared.command.Name.{Name}
@@ -60,12 +61,12 @@ NumberOf ds None = Numeral 10 ds × (value 10 ds < 2 ^ 64) → ⊥
 
 -- a line number, a space and a text
 abbrev pub Mends : Text → Answer → Type 0
-Mends s (Ok (asks.Mend n t)) = NumberOf (word s) (Some n) × (t .now ≡ after s)
+Mends s (Ok (asks.Edit (edit.Mend n t))) = NumberOf (word s) (Some n) × (t .now ≡ after s)
 Mends s (Err why.NoNumber) = word s ≡ []
-Mends s (Err (why.BadNumber t)) = NumberOf (word s) None × (t .now ≡ word s)
+Mends s (Err (why.BadNumber t)) = (0 < length (word s)) × NumberOf (word s) None × (t .now ≡ word s)
 Mends s (Ok asks.Nothing) = ⊥
-Mends s (Ok (asks.Add t)) = ⊥
-Mends s (Ok asks.Strike) = ⊥
+Mends s (Ok (asks.Edit (edit.Add t))) = ⊥
+Mends s (Ok (asks.Edit edit.Strike)) = ⊥
 Mends s (Ok asks.List) = ⊥
 Mends s (Ok asks.Help) = ⊥
 Mends s (Err (why.NoCommand t)) = ⊥
@@ -81,15 +82,15 @@ Alone c w s (Err (why.NoCommand t)) = ⊥
 
 -- by the name of the command; w is its spelling, and s what follows
 abbrev pub Named : Name → Text → Text → Answer → Type 0
-Named Add w s (Ok (asks.Add t)) = t .now ≡ s
+Named Add w s (Ok (asks.Edit (edit.Add t))) = t .now ≡ s
 Named Add w s (Ok asks.Nothing) = ⊥
-Named Add w s (Ok (asks.Mend n t)) = ⊥
-Named Add w s (Ok asks.Strike) = ⊥
+Named Add w s (Ok (asks.Edit (edit.Mend n t))) = ⊥
+Named Add w s (Ok (asks.Edit edit.Strike)) = ⊥
 Named Add w s (Ok asks.List) = ⊥
 Named Add w s (Ok asks.Help) = ⊥
 Named Add w s (Err y) = ⊥
 Named Mend w s r = Mends s r
-Named Strike w s r = Alone asks.Strike w s r
+Named Strike w s r = Alone (asks.Edit edit.Strike) w s r
 Named Listing w s r = Alone asks.List w s r
 Named Help w s r = Alone asks.Help w s r
 Named Other w s (Err (why.NoCommand t)) = t .now ≡ w

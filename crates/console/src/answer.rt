@@ -1,12 +1,11 @@
 // What the console answers.
 ghost use mathlib.Core.Path.{_≡_};
-ghost use Rattle.console.specs.Shows.{visibleOf};
+ghost use Rattle.console.specs.Shows.{visibleOf, stopsEarly};
 use crate::command::Reason;
 use fault::Fault;
 use fault::FaultDisplay;
 use fault::Kind;
 use fault::KindDisplay;
-use fault::KindPartialEq;
 use std::fmt;
 
 pub(crate) const HELP: &str = "add TEXT     put TEXT last, as a new line
@@ -54,8 +53,13 @@ pub(crate) struct Refusal<'a> {
 
 impl Refusal<'_> {
     // Whether the tokens begin a line, and there are too few of them.
-    fn stops_early(&self) -> bool {
-        self.fault.kind == Kind::NotALine && self.fault.column > self.text.len()
+    fn stops_early(&self) -> bool
+        ensures { λ r. ⌜ r ≡ stopsEarly (now (self .entry)) ⌝ }
+    {
+        match self.fault.kind {
+            Kind::NotALine => self.text.len() < self.fault.column,
+            _ => false,
+        }
     }
 }
 

@@ -1,16 +1,15 @@
 // What one line of input asks for.
 ghost use mathlib.Core.Path.{_≡_};
 ghost use Rattle.console.specs.Commands.{word, after, allBlank, nameOf, NumberOf, Mends, Alone, Asks};
+use draft::Edit;
 use std::str::from_utf8;
 
-// A text is a part of the line of input.
+// The text of an edit is a part of the line of input.
 #[derive(Clone, Copy)]
 pub(crate) enum Command<'a> {
     // a blank line or a remark
     Nothing,
-    Add(&'a [u8]),
-    Mend { number: usize, text: &'a [u8] },
-    Strike,
+    Edit(Edit<'a>),
     List,
     Help,
 }
@@ -104,7 +103,7 @@ fn mend_of(rest: &[u8]) -> Result<Command<'_>, Reason<'_>>
         return Err(Reason::NoNumber);
     }
     match number_of(digits) {
-        Some(number) => Ok(Command::Mend { number, text }),
+        Some(number) => Ok(Command::Edit(Edit::Mend(number, text))),
         None => Err(Reason::BadNumber(digits)),
     }
 }
@@ -130,9 +129,9 @@ impl Command<'_> {
             return Ok(Command::Nothing);
         }
         match name_of(name) {
-            Name::Add => Ok(Command::Add(rest)),
+            Name::Add => Ok(Command::Edit(Edit::Add(rest))),
             Name::Mend => mend_of(rest),
-            Name::Strike => alone(Command::Strike, name, rest),
+            Name::Strike => alone(Command::Edit(Edit::Strike), name, rest),
             Name::List => alone(Command::List, name, rest),
             Name::Help => alone(Command::Help, name, rest),
             Name::Other => Err(Reason::NoCommand(name)),

@@ -10,6 +10,7 @@ use crate::answer::Shown;
 use crate::answer::ShownDisplay;
 use crate::command::Command;
 use draft::Draft;
+use draft::Edit;
 use fault::Fault;
 use line::LONGEST;
 use std::alloc::Global;
@@ -17,22 +18,26 @@ use std::error::AnyError;
 use std::io;
 use std::io::BufRead;
 
-fn refuse(rt: &impl Print, fault: Fault, text: &[u8]) -> io::Result<()> {
-    rt.println(Refusal { fault, text })
-}
-
-// The number of the line that is kept, or the refusal of its text.
-fn tell_line(rt: &impl Print, answer: Result<usize, Fault>, text: &[u8]) -> io::Result<()> {
-    match answer {
-        Ok(number) => println!(rt, "line {number}"),
-        Err(fault) => refuse(rt, fault, text),
+// The text that the edit brings.
+fn text_of(edit: Edit<'_>) -> &[u8] {
+    match edit {
+        Edit::Add(text) => text,
+        Edit::Mend(_, text) => text,
+        Edit::Strike => b"",
     }
 }
 
-fn tell_struck(rt: &impl Print, answer: Result<usize, Fault>) -> io::Result<()> {
+// The number of the line that is kept or gone, or the refusal.
+fn tell(rt: &impl Print, edit: Edit<'_>, answer: Result<usize, Fault>) -> io::Result<()> {
     match answer {
-        Ok(number) => println!(rt, "struck line {number}"),
-        Err(fault) => refuse(rt, fault, b""),
+        Ok(number) => match edit {
+            Edit::Strike => println!(rt, "struck line {number}"),
+            _ => println!(rt, "line {number}"),
+        },
+        Err(fault) => rt.println(Refusal {
+            fault,
+            text: text_of(edit),
+        }),
     }
 }
 
@@ -43,7 +48,7 @@ fn list_line(rt: &impl Print, draft: &Draft, number: usize) -> io::Result<()> {
             let text = Shown(&buffer[0..size]);
             println!(rt, "{number:>2}  {text}")
         }
-        Err(fault) => refuse(rt, fault, b""),
+        Err(fault) => rt.println(Refusal { fault, text: b"" }),
     }
 }
 
@@ -63,9 +68,7 @@ fn obey(rt: &impl Print, draft: &mut Draft, command: Command<'_>) -> io::Result<
 {
     match command {
         Command::Nothing => Ok(()),
-        Command::Add(text) => tell_line(rt, draft.add(text), text),
-        Command::Mend { number, text } => tell_line(rt, draft.mend(number, text), text),
-        Command::Strike => tell_struck(rt, draft.strike()),
+        Command::Edit(edit) => tell(rt, edit, draft.apply(edit)),
         Command::List => list(rt, draft),
         Command::Help => rt.println(HELP),
     }

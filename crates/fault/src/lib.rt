@@ -112,7 +112,7 @@ pub impl fmt::Display for Kind as KindDisplay {
             Kind::NotALine => f.write_str("no line goes on like this"),
             Kind::OutOfRange => f.write_str("a number lies between -2147483648 and 2147483647"),
             Kind::DraftFull => f.write_str("a draft has at most 96 lines"),
-            Kind::NoSuchLine => f.write_str("the draft has no line of that number"),
+            Kind::NoSuchLine => f.write_str("the draft has no such line"),
             Kind::ShortBuffer => f.write_str("the buffer is shorter than the line to be printed"),
         }
     }

@@ -1,9 +1,7 @@
 -- What is answered to a text is what the grammar says. Assumes nothing.
 use mathlib.Core.Path.{_≡_, refl, sym, ap, subst, _∙_}
-use mathlib.Core.Logic.{⊎-elim}
-use mathlib.Core.Bool.{Bool, true, false, cond}
 use mathlib.Core.List.{List, []}
-use Prim.Native.Nat.{ℕ, _+_, _<_, _≤_}
+use Prim.Native.Nat.{ℕ, _+_, _≤_}
 use native.Mathlib.Omega.{arith}
 use lib.Dec.{ltb}
 use lib.IntN.{ℤ}
@@ -14,14 +12,14 @@ use Rattle.std.specs.declared.result.Result.{Result}
 use Rattle.std.specs.declared.result.Result.the-variants.{Ok, Err}
 use Rattle.std.proofs.shelf.Tests.{cond-both, cond-false, ltb-true, ltb-false, le-ltb}
 use Rattle.fault.specs.declared.Flaw.{Flaw}
-use Rattle.fault.specs.declared.Kind.the-variants.{TooLong}
+use Rattle.fault.specs.declared.Kind.the-variants.{TooLong, ForeignByte}
 use Rattle.line.specs.declared.syntax.Line.{Line}
 use Rattle.line.specs.Classes.{foreignAt}
 use Rattle.line.specs.Grammar.{spell, printed, Wide, Proper}
 use Rattle.line.specs.Pieces.{pieces}
 use Rattle.line.specs.Ranges.{beyondAt}
-use Rattle.line.specs.Readings.{flaw, ranged, spelt, clean, reading, texts, tokens, Clean, Spells, Answers, Reads}
-use Rattle.line.specs.States.{start, done, run, parsed}
+use Rattle.line.specs.Readings.{flaw, ranged, spelt, clean, reading, tokens, Clean, Spells, too-long, foreign, not-a-line, out-of-range, Answers, Reads}
+use Rattle.line.specs.States.{start, done, parsed}
 use Rattle.line.specs.Words.{Text}
 use Rattle.line.proofs.Bounds.{Within, within-none, none-within, proper-within, within-proper, proper-wide}
 use Rattle.line.proofs.Made.{run-made}
@@ -39,20 +37,20 @@ parsed-proper bs x e n = let h = parsed-line bs x e in within-proper x (h .0) (s
 
 answers-ranged : (bs : Text) (x : Line ℤ) (o : Option ℕ) → Clean bs → parsed bs ≡ Ok x → beyondAt (pieces 1 bs) ≡ o → Answers bs (ranged x o)
 answers-ranged bs x None k e q = (k, parsed-proper bs x e q, parsed-line bs x e .1)
-answers-ranged bs x (Some c) k e q = let h = parsed-line bs x e in (k, record { whole = x; wide = h .0; spelt-by = h .1 }, q)
+answers-ranged bs x (Some c) k e q = let h = parsed-line bs x e in out-of-range c refl k (record { whole = x; wide = h .0; spelt-by = h .1 }) q
 
 answers-spelt : (bs : Text) (r : Result (Line ℤ) ℕ) → Clean bs → parsed bs ≡ r → Answers bs (spelt bs r)
-answers-spelt bs (Err c) k e = (k, stopped bs c e)
+answers-spelt bs (Err c) k e = not-a-line c refl k (stopped bs c e)
 answers-spelt bs (Ok x) k e = answers-ranged bs x (beyondAt (pieces 1 bs)) k e refl
 
 answers-clean : (bs : Text) (o : Option ℕ) → length bs ≤ 80 → foreignAt 1 bs ≡ o → Answers bs (clean bs o)
-answers-clean bs (Some c) h q = (h, q)
+answers-clean bs (Some c) h q = foreign c refl h q
 answers-clean bs None h q = answers-spelt bs (parsed bs) (h, q) refl
 
 answers : (bs : Text) → Answers bs (reading bs)
 answers bs =
     cond-both (ltb 80 (length bs)) (Err (flaw TooLong 81)) (clean bs (foreignAt 1 bs)) (Answers bs)
-    (λ e. (ltb-true 80 (length bs) e, refl))
+    (λ e. too-long refl (ltb-true 80 (length bs) e))
     (λ e. answers-clean bs (foreignAt 1 bs) (omega (arith, ltb-false 80 (length bs) e)) refl)
 
 complete : (bs : Text) (x : Line ℤ) → Spells bs x → reading bs ≡ Ok x
@@ -75,7 +73,10 @@ reads-back x p h =
 pub answered : (bs : Text) (r : Result (Line ℤ) Flaw) → r ≡ reading bs → Reads bs r
 answered bs r e = subst (Reads bs) (sym e) (reads-exactly bs)
 
--- each way through the reader of a text without a foreign byte
+-- each way through the reader
+pub foreign-text : (bs : Text) (c : ℕ) → length bs ≤ 80 → Some c ≡ foreignAt 1 bs → Err (flaw ForeignByte c) ≡ reading bs
+foreign-text bs c h e = sym (cond-false (ltb 80 (length bs)) (Err (flaw TooLong 81)) (clean bs (foreignAt 1 bs)) (le-ltb 80 (length bs) h) ∙ ap (clean bs) (sym e))
+
 pub clean-text : (bs : Text) (r : Result (Line ℤ) ℕ) → length bs ≤ 80 → None ≡ foreignAt 1 bs → r ≡ parsed bs → spelt bs r ≡ reading bs
 clean-text bs r h e q =
     sym (cond-false (ltb 80 (length bs)) (Err (flaw TooLong 81)) (clean bs (foreignAt 1 bs)) (le-ltb 80 (length bs) h) ∙ ap (clean bs) (sym e) ∙ ap (spelt bs) (sym q))

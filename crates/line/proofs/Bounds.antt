@@ -1,23 +1,20 @@
 -- A line's numbers fit 32 bits if and only if none of its tokens is a number out of range. Assumes nothing.
-use mathlib.Core.Path.{_≡_, refl, sym, ap, subst, _∙_}
+use mathlib.Core.Path.{_≡_, refl, sym, ap, _∙_}
 use mathlib.Core.Logic.{⊎-elim}
-use mathlib.Core.Bool.{Bool, true, false, cond, _&&_}
+use mathlib.Core.Bool.{true, false, cond}
 use mathlib.Core.List.{List, [], _∷_, _++_}
-use Prim.Native.Nat.{ℕ, suc, _+_, _<_, _≤_, _^_}
+use Prim.Native.Nat.{ℕ, _≤_, _^_}
 use native.Mathlib.Omega.{arith}
 use lib.Chars.{codes}
-use lib.Dec.{leb, ltb}
+use lib.Dec.{leb}
 use lib.IntN.{ℤ, pos, negsuc}
 use lib.ListN.{length, getD}
-use lib.Signed.{mag}
 use Rattle.std.specs.Text.{asciiLower}
 use Rattle.std.specs.Written.{signed}
-use Rattle.std.specs.declared.option.Option.{Option}
 use Rattle.std.specs.declared.option.Option.the-variants.{Some, None}
 use Rattle.std.proofs.shelf.Tests.{cases-bool, and-parts, leb-true, ltb-true, false≢true}
-use Rattle.numeral.specs.declared.Numeral.the-variants.{NotANumber, OutOfRange, Value}
-use Rattle.numeral.specs.Numbers.{Short, fits, shaped, intOf, wideOf, narrowed}
-use Rattle.numeral.proofs.Numerals.{Spelling, nought, plain, minus, spelling, wide-back}
+use Rattle.numeral.specs.Numbers.{Short, fits, narrowOf, held, shaped, intOf, narrowed}
+use Rattle.numeral.proofs.Numerals.{spelling, wide-back}
 use Rattle.line.specs.declared.label.Label.{Label}
 use Rattle.line.specs.declared.syntax.Action.{Action}
 use Rattle.line.specs.declared.syntax.Action.the-variants.{Pass, Set, Compute, Get, Put}
@@ -75,7 +72,7 @@ variable-within : (v : Variable) → isBeyond (variableText v) ≡ false
 variable-within v = unbeyond (variableText v) (omega (arith, lower (v .letter) (v .ok)))
 
 -- a spelt number is out of range where it does not fit
-pub number-beyond : (z : ℤ) → Short z → isBeyond (signed z) ≡ pastRange (cond (fits z) (Value z) OutOfRange)
+pub number-beyond : (z : ℤ) → Short z → isBeyond (signed z) ≡ pastRange (held (narrowOf z))
 number-beyond z h = ap (λ o. pastRange (narrowed o)) (wide-back z h)
 
 pub fits-short : (z : ℤ) → Fits z → Short z
@@ -84,10 +81,10 @@ fits-short (negsuc n) e = omega (arith, ltb-true n (2 ^ 31) e)
 
 number-in : (z : ℤ) → Short z → isBeyond (signed z) ≡ false → Fits z
 number-in z h e =
-    ⊎-elim (λ f. f) (λ f. absurd (false≢true (sym e ∙ number-beyond z h ∙ ap (λ b. pastRange (cond b (Value z) OutOfRange)) f))) (cases-bool (fits z))
+    ⊎-elim (λ f. f) (λ f. absurd (false≢true (sym e ∙ number-beyond z h ∙ ap (λ b. pastRange (held (cond b (Some z) None))) f))) (cases-bool (fits z))
 
 number-within : (z : ℤ) → Fits z → isBeyond (signed z) ≡ false
-number-within z e = number-beyond z (fits-short z e) ∙ ap (λ b. pastRange (cond b (Value z) OutOfRange)) e
+number-within z e = number-beyond z (fits-short z e) ∙ ap (λ b. pastRange (held (cond b (Some z) None))) e
 
 -- a line with numbers in range has tokens in range
 operand-within : (o : Operand ℤ) → EachOperand Fits o → isBeyond (spellOperand o) ≡ false
@@ -162,7 +159,7 @@ proper-wide x p = statement-wide (x .statement) p
 -- a line with numbers in range is narrowed to itself
 operand-kept : (o : Operand ℤ) → EachOperand Fits o → narrowedOperand o ≡ Some o
 operand-kept (Var v) p = refl
-operand-kept (Num z) p = ap (λ b. cond b (Some (Num z)) None) p
+operand-kept (Num z) p = ap (λ b. keep (cond b (Some z) None) (λ n. Some (Num n))) p
 
 action-kept : (a : Action ℤ) → EachAction Fits a → narrowedAction a ≡ Some a
 action-kept Pass p = refl

@@ -1,31 +1,31 @@
 -- How the tokens of a list follow from its leading spaces and its first run. Assumes nothing.
 use mathlib.Core.Path.{_≡_, refl, sym, ap, subst, _∙_}
 use mathlib.Core.Logic.{⊎-elim}
-use mathlib.Core.Bool.{Bool, true, false, cond}
+use mathlib.Core.Bool.{Bool, true, false}
 use mathlib.Core.List.{List, [], _∷_}
-use Prim.Native.Nat.{ℕ, suc, _+_, _-_, _<_, _≤_}
+use Prim.Native.Nat.{ℕ, suc, _+_, _-_, _<_}
 use native.Mathlib.Nat.{le-refl}
 use Rattle.std.proofs.shelf.Parts.{between-to-end}
 use native.Mathlib.Omega.{arith}
-use lib.Dec.{eqb}
 use lib.ListN.{length, getD, take, drop}
 use Rattle.std.proofs.shelf.Lists.{drop-more}
-use Rattle.std.proofs.shelf.Tests.{eq-eqb, ne-eqb, cases-bool}
+use Rattle.std.proofs.shelf.Tests.{cases-bool}
 use Rattle.std.specs.declared.option.Option.the-variants.{Some, None}
 use Rattle.line.specs.declared.cursor.Token.{Token}
+use Rattle.numeral.proofs.Scans.{nothing-left}
 use Rattle.line.specs.Pieces.{isBlank, blanks, inked, Piece, runsOn, grown, pieces, Next}
 
-pub blank-more : (s : List ℕ) (i : ℕ) → i < length s → getD s i 0 ≡ 32 → blanks (drop i s) ≡ suc (blanks (drop (i + 1) s))
-blank-more s i h e = rw (drop-more s i 0 h) (rw (eq-eqb (getD s i 0) 32 e))
+pub blank-more : (s : List ℕ) (i : ℕ) → i < length s → isBlank (getD s i 0) ≡ true → blanks (drop i s) ≡ suc (blanks (drop (i + 1) s))
+blank-more s i h e = rw (drop-more s i 0 h) (rw e)
 
-pub blank-stops : (s : List ℕ) (i : ℕ) → i < length s → (getD s i 0 ≡ 32 → ⊥) → blanks (drop i s) ≡ 0
-blank-stops s i h e = rw (drop-more s i 0 h) (rw (ne-eqb (getD s i 0) 32 e))
+pub blank-stops : (s : List ℕ) (i : ℕ) → i < length s → isBlank (getD s i 0) ≡ false → blanks (drop i s) ≡ 0
+blank-stops s i h e = rw (drop-more s i 0 h) (rw e)
 
-pub ink-more : (s : List ℕ) (i : ℕ) → i < length s → (getD s i 0 ≡ 32 → ⊥) → inked (drop i s) ≡ suc (inked (drop (i + 1) s))
-ink-more s i h e = rw (drop-more s i 0 h) (rw (ne-eqb (getD s i 0) 32 e))
+pub ink-more : (s : List ℕ) (i : ℕ) → i < length s → isBlank (getD s i 0) ≡ false → inked (drop i s) ≡ suc (inked (drop (i + 1) s))
+ink-more s i h e = rw (drop-more s i 0 h) (rw e)
 
-pub ink-stops : (s : List ℕ) (i : ℕ) → i < length s → getD s i 0 ≡ 32 → inked (drop i s) ≡ 0
-ink-stops s i h e = rw (drop-more s i 0 h) (rw (eq-eqb (getD s i 0) 32 e))
+pub ink-stops : (s : List ℕ) (i : ℕ) → i < length s → isBlank (getD s i 0) ≡ true → inked (drop i s) ≡ 0
+ink-stops s i h e = rw (drop-more s i 0 h) (rw e)
 
 -- leading spaces make no token
 skip : (c : ℕ) (bs : List ℕ) → pieces c bs ≡ pieces (c + blanks bs) (drop (blanks bs) bs)
@@ -74,13 +74,9 @@ next-some c bs m n t after em en h et ec ea =
     subst (λ (l : List Piece). Next l (Some t) (pieces (c + m + n) after)) (sym split)
     (et ∙ ap (λ k. take k rest) en, ec, ap (pieces (c + m + n)) ea ∙ ap (λ k. pieces (c + m + k) (drop k rest)) en)
 
-nothing : (l : List ℕ) → length l ≡ 0 → l ≡ []
-nothing [] h = refl
-nothing (b ∷ l) h = absurd (omega arith)
-
 pub next-none : (c : ℕ) (bs : List ℕ) (m d : ℕ) → m ≡ blanks bs → length (take (length bs - m) (drop m bs)) ≡ 0 → Next (pieces c bs) None (pieces d (take (length bs - m) (drop m bs)))
 next-none c bs m d em h =
-    let empty : take (length bs - m) (drop m bs) ≡ [] = nothing _ h in
+    let empty : take (length bs - m) (drop m bs) ≡ [] = nothing-left _ h in
     let whole : pieces c bs ≡ [] = skip c bs ∙ ap (pieces (c + blanks bs)) (sym (left bs m em) ∙ empty) in
     subst (λ (l : List Piece). Next l None (pieces d (take (length bs - m) (drop m bs)))) (sym whole) (ap (pieces d) empty)
 

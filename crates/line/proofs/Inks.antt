@@ -7,7 +7,7 @@ use lib.IntN.{ℤ, pos, negsuc}
 use lib.Signed.{mag}
 use lib.ListN.{length, take}
 use native.Mathlib.Nat.{sub-zero}
-use Rattle.std.specs.Written.{decimal, signed}
+use Rattle.std.specs.Written.{signed}
 use Rattle.std.proofs.shelf.Decimals.{length-decimal-le}
 use Rattle.line.specs.Grammar.{spaced}
 use Rattle.line.specs.Words.{Text}

@@ -3,11 +3,11 @@ use mathlib.Core.Path.{_≡_, refl, sym, ap, subst, _∙_}
 use mathlib.Core.Logic.{⊎-elim}
 use mathlib.Core.Bool.{Bool, true, false, cond}
 use mathlib.Core.List.{List, [], _∷_, _++_}
-use Prim.Native.Nat.{ℕ, zero, suc, _+_, _<_}
+use Prim.Native.Nat.{ℕ, zero, suc, _+_}
 use native.Mathlib.Omega.{arith}
-use lib.ListN.{length, replicate}
+use lib.ListN.{replicate}
 use Rattle.std.proofs.shelf.Tests.{cases-bool, eqb-true, false≢true}
-use Rattle.line.specs.Pieces.{isBlank, Piece, runsOn, grown, pieces, Unspaced, Stops, Run, Runs}
+use Rattle.line.specs.Pieces.{isBlank, Piece, runsOn, grown, pieces, Stops, Runs}
 
 -- one space more in front
 spaced-out : (c b : ℕ) (bs : List ℕ) (ps : List Piece) → isBlank b ≡ true → Runs (c + 1) bs ps → Runs c (b ∷ bs) ps

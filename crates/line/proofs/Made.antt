@@ -11,12 +11,10 @@ use Rattle.std.specs.declared.result.Result.{Result}
 use Rattle.std.specs.declared.result.Result.the-variants.{Ok, Err}
 use Rattle.numeral.specs.Numbers.{Short}
 use Rattle.line.specs.declared.label.Label.{Label}
-use Rattle.line.specs.declared.syntax.Action.{Action}
 use Rattle.line.specs.declared.syntax.Action.the-variants.{Pass, Set, Compute, Get, Put}
 use Rattle.line.specs.declared.syntax.Line.{Line}
 use Rattle.line.specs.declared.syntax.Operand.{Operand}
 use Rattle.line.specs.declared.syntax.Operator.{Operator}
-use Rattle.line.specs.declared.syntax.Statement.{Statement}
 use Rattle.line.specs.declared.syntax.Statement.the-variants.{Then, If, Halt}
 use Rattle.line.specs.declared.variable.Variable.{Variable}
 use Rattle.line.specs.declared.word.Word.{Word}

@@ -1,6 +1,6 @@
 -- The tokens of a printed line are those that spell it, and none of its bytes is foreign. Assumes nothing.
-use mathlib.Core.Path.{_≡_, refl, sym, ap, subst, _∙_}
-use mathlib.Core.Bool.{Bool, true, false, cond, _&&_}
+use mathlib.Core.Path.{_≡_, refl, sym, ap, _∙_}
+use mathlib.Core.Bool.{Bool, true, false, _&&_}
 use mathlib.Core.List.{List, [], _∷_, _++_}
 use Prim.Native.Nat.{ℕ, suc, _+_, _<_, _≤_}
 use native.Mathlib.Omega.{arith}
@@ -17,7 +17,7 @@ use Rattle.std.proofs.shelf.Tests.{and-parts, and-from, cond-both, leb-true, le
 use Rattle.numeral.specs.Numbers.{Short}
 use Rattle.numeral.proofs.Numerals.{Spelling, nought, plain, minus, Led, reads}
 use Rattle.line.specs.declared.class.Class.{Class}
-use Rattle.line.specs.declared.class.Class.the-variants.{Space, Letter, Digit, Sign, Foreign}
+use Rattle.line.specs.declared.class.Class.the-variants.{Space, Letter, Digit}
 use Rattle.line.specs.declared.label.Label.{Label}
 use Rattle.line.specs.declared.syntax.Action.{Action}
 use Rattle.line.specs.declared.syntax.Action.the-variants.{Pass, Set, Compute, Get, Put}
@@ -29,10 +29,10 @@ use Rattle.line.specs.declared.syntax.Operator.the-variants.{Add, Sub, Mul, Di
 use Rattle.line.specs.declared.syntax.Statement.{Statement}
 use Rattle.line.specs.declared.syntax.Statement.the-variants.{Then, If, Halt}
 use Rattle.line.specs.declared.variable.Variable.{Variable}
-use Rattle.line.specs.Classes.{classOf, isForeign, foreignAt, isSign}
+use Rattle.line.specs.Classes.{classOf, isForeign, foreignAt}
 use Rattle.line.specs.Grammar.{spell, spellAction, spellStatement, spellOperand, spellOperator, Wide, EachOperand, EachAction, EachStatement, spaced, printed}
 use Rattle.line.specs.Names.{allLetters}
-use Rattle.line.specs.Pieces.{isBlank, blanks, inked, Piece, pieces}
+use Rattle.line.specs.Pieces.{isBlank, blanks, inked, pieces}
 use Rattle.line.specs.Readings.{texts, tokens}
 use Rattle.line.specs.Words.{Text, labelText, variableText}
 use Rattle.line.proofs.Cuts.{begun}
@@ -120,13 +120,16 @@ digit-dark b e = (
       (λ y. cond-both (asciiDigit b) Digit _ Known (λ z. refl) (λ z. absurd (false≢true (sym z ∙ e))))),
 )
 
+-- what a test on each byte says of all
+all-dark : (p : ℕ → Bool) (f : Text → Bool) → ((b : ℕ) (bs : Text) → f (b ∷ bs) ≡ (p b && f bs)) → ((b : ℕ) → p b ≡ true → Dark b) → (t : Text) → f t ≡ true → Every Dark t
+all-dark p f each d [] e = tt
+all-dark p f each d (b ∷ bs) e = let q = and-parts (p b) (f bs) (sym (each b bs) ∙ e) in (d b (q .0), all-dark p f each d bs (q .1))
+
 letters-dark : (t : Text) → allLetters t ≡ true → Every Dark t
-letters-dark [] e = tt
-letters-dark (b ∷ bs) e = let p = and-parts (asciiLower b) (allLetters bs) e in (lower-dark b (p .0), letters-dark bs (p .1))
+letters-dark = all-dark asciiLower allLetters (λ b bs. refl) lower-dark
 
 digits-dark : (t : Text) → allDigits t ≡ true → Every Dark t
-digits-dark [] e = tt
-digits-dark (b ∷ bs) e = let p = and-parts (asciiDigit b) (allDigits bs) e in (digit-dark b (p .0), digits-dark bs (p .1))
+digits-dark = all-dark asciiDigit allDigits (λ b bs. refl) digit-dark
 
 led-dark : (d : ℕ) (ds : Text) → Led d ds → Every Dark (d ∷ ds)
 led-dark d ds l = (digit-dark d (and-from (leb 48 d) (leb d 57) (le-leb 48 d (omega (arith, l .low))) (le-leb d 57 (l .high))), digits-dark ds (l .rest))

@@ -1,12 +1,11 @@
 -- A text that is not a spelling falls through to the next case. Assumes nothing.
-use mathlib.Core.Path.{_≡_, refl, sym, ap, subst, _∙_}
+use mathlib.Core.Path.{_≡_, sym, subst}
 use mathlib.Core.Logic.{⊎-elim}
 use mathlib.Core.Bool.{Bool, true, false, cond, _&&_}
 use mathlib.Core.List.{List, [], _∷_}
-use Prim.Native.Nat.{ℕ, _+_, _<_}
+use Prim.Native.Nat.{ℕ}
 use lib.Dec.{ltb}
-use lib.ListN.{length, getD, drop}
-use Rattle.std.specs.Text.{Utf8, Ascii, asciiLower}
+use Rattle.std.specs.Text.{Utf8, Ascii}
 use Rattle.std.specs.shelf.Text.{sameBytes}
 use Rattle.std.proofs.shelf.Ascii.{ascii-nil, ascii-cons}
 use Rattle.std.proofs.shelf.Equals.{sameBytes-decides}

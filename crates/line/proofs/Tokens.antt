@@ -1,16 +1,15 @@
 -- What a token's spelling says of it, and back. Assumes nothing.
 use mathlib.Core.Path.{_≡_, refl, sym, ap, subst, _∙_}
 use mathlib.Core.HLevel.{isProp→PathP}
-use mathlib.Core.Logic.{⊎-elim}
-use mathlib.Core.Bool.{Bool, true, false, cond, _&&_, Bool-set}
-use mathlib.Core.List.{List, [], _∷_, _++_}
-use Prim.Native.Nat.{ℕ, zero, suc, _+_, _-_, _<_, _≤_}
+use mathlib.Core.Bool.{Bool, true, false, _&&_, Bool-set}
+use mathlib.Core.List.{[], _∷_, _++_}
+use Prim.Native.Nat.{ℕ, _-_, _≤_}
 use native.Mathlib.Nat.{sub-zero}
 use native.Mathlib.Omega.{arith}
 use lib.Chars.{codes}
 use lib.Dec.{eqb, leb}
 use lib.IntN.{ℤ}
-use lib.ListN.{length, getD, take, drop}
+use lib.ListN.{length, getD, drop}
 use Rattle.std.specs.Text.{asciiLower}
 use Rattle.std.specs.Written.{signed}
 use Rattle.std.specs.shelf.Text.{sameBytes}
@@ -18,9 +17,9 @@ use Rattle.std.specs.declared.option.Option.{Option}
 use Rattle.std.specs.declared.option.Option.the-variants.{Some, None}
 use Rattle.std.proofs.shelf.Equals.{sameBytes-decides}
 use Rattle.std.proofs.shelf.Lists.{take-at}
-use Rattle.std.proofs.shelf.Tests.{cases-bool, cond-both, cond-true, cond-false, and-from, and-parts, eqb-true, eq-eqb, leb-true, le-leb, lt-leb, false≢true}
-use Rattle.numeral.specs.Numbers.{Short, Spelt, shaped, wideOf}
-use Rattle.numeral.proofs.Numerals.{Spelling, nought, plain, minus, spelling, reads, wide-spelt, wide-back}
+use Rattle.std.proofs.shelf.Tests.{cond-both, and-from, and-parts, eqb-true, leb-true, le-leb, lt-leb, false≢true}
+use Rattle.numeral.specs.Numbers.{Short, Spelt, wideOf}
+use Rattle.numeral.proofs.Numerals.{Spelling, nought, plain, minus, reads, wide-spelt, wide-back}
 use Rattle.line.specs.declared.label.Label.{Label}
 use Rattle.line.specs.declared.variable.Variable.{Variable}
 use Rattle.line.specs.declared.syntax.Operator.{Operator}
@@ -32,7 +31,7 @@ use Rattle.line.specs.declared.word.Word.the-variants.{Pass, Halt, If, Get, Pu
 use Rattle.line.specs.Grammar.{spellOperand, spellOperator, EachOperand}
 use Rattle.line.specs.Names.{allLetters, isWord, isName, padded, zeros, kept}
 use Rattle.line.specs.Words.{Text, wordOf, signOf, doubleOf, operatorOf, labelText, labelBy, labelOf, variableText, variableBy, variableOf, orNumber, operandOf}
-use Rattle.line.proofs.Spelt.{past, differs}
+use Rattle.line.proofs.Spelt.{past}
 
 is-text : (t w : Text) → sameBytes t w ≡ true → t ≡ w
 is-text t w e = sameBytes-decides t w .0 e

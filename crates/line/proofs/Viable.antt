@@ -9,18 +9,15 @@ use lib.IntN.{ℤ}
 use lib.ListN.{length}
 use Rattle.std.specs.declared.option.Option.{Option}
 use Rattle.std.specs.declared.option.Option.the-variants.{Some, None}
-use Rattle.std.specs.declared.result.Result.{Result}
 use Rattle.std.specs.declared.result.Result.the-variants.{Ok, Err}
 use Rattle.numeral.specs.Numbers.{Short}
 use Rattle.line.specs.declared.label.Label.{Label}
-use Rattle.line.specs.declared.syntax.Action.{Action}
-use Rattle.line.specs.declared.syntax.Action.the-variants.{Pass, Set, Compute, Get, Put}
-use Rattle.line.specs.declared.syntax.Line.{Line}
-use Rattle.line.specs.declared.syntax.Operand.the-variants.{Var, Num}
+use Rattle.line.specs.declared.syntax.Action.the-variants.{Set, Compute, Get, Put}
+use Rattle.line.specs.declared.syntax.Operand.the-variants.{Var}
 use Rattle.line.specs.declared.syntax.Statement.{Statement}
 use Rattle.line.specs.declared.syntax.Statement.the-variants.{Then, If, Halt}
 use Rattle.line.specs.declared.variable.Variable.{Variable}
-use Rattle.line.specs.Grammar.{spell, spellAction, spellOperand, spellOperator, Wide, EachStatement}
+use Rattle.line.specs.Grammar.{spell, spellAction, spellOperand, spellOperator, EachStatement}
 use Rattle.line.specs.Names.{padded, kept}
 use Rattle.line.specs.Pieces.{Piece, pieces}
 use Rattle.line.specs.Readings.{texts, Begins, AtToken, AtEnd}

@@ -1,5 +1,5 @@
 -- The states that a list of tokens leads through, and the tokens of a line among them. Assumes nothing.
-use mathlib.Core.Path.{_≡_, refl, sym, ap, subst, _∙_}
+use mathlib.Core.Path.{_≡_, refl, ap, _∙_}
 use mathlib.Core.List.{List, [], _∷_, _++_}
 use Prim.Native.Nat.{ℕ}
 use native.Mathlib.Omega.{arith}
@@ -7,22 +7,21 @@ use lib.Chars.{codes}
 use lib.IntN.{ℤ}
 use Rattle.std.specs.declared.option.Option.{Option}
 use Rattle.std.specs.declared.option.Option.the-variants.{Some, None}
-use Rattle.std.specs.declared.result.Result.the-variants.{Ok, Err}
+use Rattle.std.specs.declared.result.Result.the-variants.{Ok}
 use Rattle.numeral.specs.Numbers.{Short}
 use Rattle.line.specs.declared.label.Label.{Label}
 use Rattle.line.specs.declared.syntax.Action.{Action}
 use Rattle.line.specs.declared.syntax.Action.the-variants.{Pass, Set, Compute, Get, Put}
 use Rattle.line.specs.declared.syntax.Line.{Line}
 use Rattle.line.specs.declared.syntax.Operand.{Operand}
-use Rattle.line.specs.declared.syntax.Operator.{Operator}
 use Rattle.line.specs.declared.syntax.Statement.{Statement}
 use Rattle.line.specs.declared.syntax.Statement.the-variants.{Then, If, Halt}
 use Rattle.line.specs.declared.variable.Variable.{Variable}
 use Rattle.line.specs.Grammar.{spell, spellAction, spellStatement, spellOperand, spellOperator, Wide, EachOperand, EachAction, EachStatement}
 use Rattle.line.specs.Pieces.{Piece}
 use Rattle.line.specs.Readings.{texts}
-use Rattle.line.specs.States.{State, start, named, setting, sourcing, held, joining, putting, testing, acted, tested, leading, branching, forking, done, line, onto, begun, sourced, eitherOp, arrowOf, step, closed, run, follow}
-use Rattle.line.specs.Words.{Text, labelText, variableText, variableOf, operatorOf, labelOf, operandOf, wordOf}
+use Rattle.line.specs.States.{State, start, named, setting, sourcing, held, joining, putting, testing, acted, tested, leading, branching, forking, done, line, onto, begun, eitherOp, arrowOf, step, closed, run, follow}
+use Rattle.line.specs.Words.{Text, labelText, variableText, variableOf, labelOf, operandOf, wordOf}
 use Rattle.line.proofs.Runs.{sourced-other}
 use Rattle.line.proofs.Tokens.{label-back, operand-back, operand-word, variable-back, variable-word, op-back}
 

@@ -7,7 +7,7 @@ use Rattle.std.specs.declared.option.Option.{Option}
 use Rattle.std.specs.declared.option.Option.the-variants.{Some, None}
 use Rattle.numeral.specs.declared.Numeral.{Numeral}
 use Rattle.numeral.specs.declared.Numeral.the-variants.{NotANumber, OutOfRange, Value}
-use Rattle.numeral.specs.Numbers.{numeralOf, fits}
+use Rattle.numeral.specs.Numbers.{numeralOf, narrowOf}
 use Rattle.line.specs.declared.syntax.Action.{Action}
 use Rattle.line.specs.declared.syntax.Action.the-variants.{Pass, Set, Compute, Get, Put}
 use Rattle.line.specs.declared.syntax.Line.{Line}
@@ -39,7 +39,7 @@ keep (Some a) f = f a
 -- the same, where its numbers are in range
 abbrev pub narrowedOperand : Operand ℤ → Option (Operand ℤ)
 narrowedOperand (Var v) = Some (Var v)
-narrowedOperand (Num z) = cond (fits z) (Some (Num z)) None
+narrowedOperand (Num z) = keep (narrowOf z) (λ n. Some (Num n))
 
 abbrev pub narrowedAction : Action ℤ → Option (Action ℤ)
 narrowedAction Pass = Some Pass

@@ -1,7 +1,7 @@
 -- What is answered to a text: a line, or the first refusal that fits. Assumes nothing.
 use mathlib.Core.Path.{_≡_}
 use mathlib.Core.Logic.{_⊎_}
-use mathlib.Core.Bool.{Bool, true, false, cond}
+use mathlib.Core.Bool.{cond}
 use mathlib.Core.List.{List, [], _∷_, _++_, map}
 use Prim.Native.Nat.{ℕ, _+_, _<_, _≤_}
 use lib.Dec.{ltb}
@@ -13,7 +13,7 @@ use Rattle.std.specs.declared.result.Result.{Result}
 use Rattle.std.specs.declared.result.Result.the-variants.{Ok, Err}
 use Rattle.fault.specs.declared.Flaw.{Flaw}
 use Rattle.fault.specs.declared.Kind.{Kind}
-use Rattle.fault.specs.declared.Kind.the-variants.{TooLong, ForeignByte, NotALine, OutOfRange, DraftFull, NoSuchLine, ShortBuffer}
+use Rattle.fault.specs.declared.Kind.the-variants.{TooLong, ForeignByte, NotALine, OutOfRange}
 use Rattle.line.specs.declared.syntax.Line.{Line}
 use Rattle.line.specs.Classes.{foreignAt}
 use Rattle.line.specs.Grammar.{spell, Wide, Proper}
@@ -83,14 +83,12 @@ pub record Shaped (ts : List Text) : Type 0 where
   pub wide : Wide whole
   pub spelt-by : ts ≡ spell whole
 
-abbrev pub Refuses : Text → Kind → ℕ → Type 0
-Refuses bs TooLong c = (80 < length bs) × (c ≡ 81)
-Refuses bs ForeignByte c = (length bs ≤ 80) × (foreignAt 1 bs ≡ Some c)
-Refuses bs NotALine c = Clean bs × (AtToken (pieces 1 bs) c ⊎ AtEnd (1 + length bs) (pieces 1 bs) c)
-Refuses bs OutOfRange c = Clean bs × Shaped (tokens bs) × (beyondAt (pieces 1 bs) ≡ Some c)
-Refuses bs DraftFull c = ⊥
-Refuses bs NoSuchLine c = ⊥
-Refuses bs ShortBuffer c = ⊥
+-- what each refusal says of the text
+pub data Refused (bs : Text) (f : Flaw) : Type 0 where
+  too-long : f ≡ flaw TooLong 81 → 80 < length bs → Refused bs f
+  foreign : (c : ℕ) → f ≡ flaw ForeignByte c → length bs ≤ 80 → foreignAt 1 bs ≡ Some c → Refused bs f
+  not-a-line : (c : ℕ) → f ≡ flaw NotALine c → Clean bs → AtToken (pieces 1 bs) c ⊎ AtEnd (1 + length bs) (pieces 1 bs) c → Refused bs f
+  out-of-range : (c : ℕ) → f ≡ flaw OutOfRange c → Clean bs → Shaped (tokens bs) → beyondAt (pieces 1 bs) ≡ Some c → Refused bs f
 
 -- the line is one whose numbers are in range, and whose tokens these are
 abbrev pub Spells : Text → Line ℤ → Type 0
@@ -98,9 +96,14 @@ Spells bs x = Clean bs × Proper x × (tokens bs ≡ spell x)
 
 abbrev pub Answers : Text → Result (Line ℤ) Flaw → Type 0
 Answers bs (Ok x) = Spells bs x
-Answers bs (Err f) = Refuses bs (f .kind) (f .column)
+Answers bs (Err f) = Refused bs f
 
 -- a line is answered if and only if the tokens spell it; else the first refusal that fits
 pub record Reads (bs : Text) (r : Result (Line ℤ) Flaw) : Type 0 where
   pub answers : Answers bs r
   pub complete : (x : Line ℤ) → Spells bs x → r ≡ Ok x
+
+-- a flaw of a text that is not clean, and then the answer to it; or none, and the text is clean
+abbrev pub Sorts : Text → Option Flaw → Type 0
+Sorts bs (Some f) = (Err f ≡ reading bs) × Reads bs (Err f)
+Sorts bs None = Clean bs

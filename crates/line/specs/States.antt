@@ -30,21 +30,35 @@ use Rattle.line.specs.Words.{Text, wordOf, operatorOf, labelOf, variableOf, op
 abbrev pub endOf : Cursor → ℕ
 endOf k = k .column + length (k .rest .now)
 
--- what the tokens so far have said
+-- what the tokens so far have said, with an example of each
 pub data State : Type 0 where
+  -- nothing
   start : State
+  -- join
   named : Label → State
+  -- join e
   setting : Label → Variable → State
+  -- join e =
   sourcing : Label → Variable → State
+  -- join e = n
   held : Label → Variable → Operand ℤ → State
+  -- join e = n -
   joining : Label → Variable → Operand ℤ → Operator → State
+  -- out put
   putting : Label → State
+  -- test if
   testing : Label → State
+  -- join e = n - s, and no more can follow but the arrow
   acted : Label → Action ℤ → State
+  -- test if n
   tested : Label → Operand ℤ → State
+  -- join e = n - s ->
   leading : Label → Action ℤ → State
+  -- test if n ->
   branching : Label → Operand ℤ → State
+  -- test if n -> left
   forking : Label → Operand ℤ → Label → State
+  -- a whole line
   done : Line ℤ → State
 
 abbrev pub line : Label → Statement ℤ → Line ℤ

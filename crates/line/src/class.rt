@@ -1,6 +1,8 @@
 // The class of each byte.
 ghost use mathlib.Core.Path.{_≡_};
+ghost use Rattle.std.specs.Text.{asciiLower};
 ghost use Rattle.line.specs.Classes.{classOf, foreignAt};
+ghost use Rattle.line.specs.Pieces.{isBlank};
 
 #[derive(Clone, Copy)]
 pub(crate) enum Class {
@@ -292,6 +294,24 @@ pub(crate) fn class_of(byte: u8) -> Class
 {
     let table: &[Class; 256] = &CLASSES;
     table[byte as usize]
+}
+
+pub(crate) fn is_space(byte: u8) -> bool
+    ensures { λ r. ⌜ r ≡ isBlank byte ⌝ }
+{
+    match class_of(byte) {
+        Class::Space => true,
+        _ => false,
+    }
+}
+
+pub(crate) fn is_letter(byte: u8) -> bool
+    ensures { λ r. ⌜ r ≡ asciiLower byte ⌝ }
+{
+    match class_of(byte) {
+        Class::Letter => true,
+        _ => false,
+    }
 }
 
 // The column of the first foreign byte.

@@ -5,6 +5,7 @@ ghost use lib.ListN.{length};
 ghost use mathlib.Core.Bool.{true};
 ghost use Rattle.std.specs.Options.{isSome};
 ghost use Rattle.line.specs.Pieces.{blanks, inked, ahead, Next, Runs};
+use crate::class::is_space;
 
 #[derive(Clone, Copy)]
 pub(crate) struct Token<'a> {
@@ -25,7 +26,7 @@ fn spaces(s: &[u8]) -> usize
     ensures value { λ r. ⌜ r ≡ blanks (now (s .entry)) ⌝ }
 {
     let mut n = 0;
-    while n < s.len() && s[n] == b' ' {
+    while n < s.len() && is_space(s[n]) {
         n += 1;
     }
     n
@@ -37,7 +38,7 @@ fn run(s: &[u8]) -> usize
     ensures value { λ r. ⌜ r ≡ inked (now (s .entry)) ⌝ }
 {
     let mut n = 0;
-    while n < s.len() && s[n] != b' ' {
+    while n < s.len() && !is_space(s[n]) {
         n += 1;
     }
     n

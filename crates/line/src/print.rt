@@ -7,7 +7,7 @@ ghost use Rattle.std.specs.declared.result.Result.the-variants.{Ok};
 ghost use Rattle.line.specs.Grammar.{spellOperand, spellOperator, spellAction, spellStatement, spaced, printed, EachOperand, EachAction, EachStatement, Fits, Prints};
 ghost use Rattle.line.specs.Readings.{reading};
 ghost use Rattle.line.specs.Sheets.{inkOf};
-use crate::label::Label;
+ghost use Rattle.line.specs.Words.{variableText};
 use crate::sheet::Sheet;
 use crate::syntax::Action;
 use crate::syntax::Line;
@@ -32,7 +32,7 @@ fn put_word(sheet: &mut Sheet, word: &[u8])
 
 fn put_variable(sheet: &mut Sheet, v: Variable)
     requires { ⌜ now sheet .len + 2 ≤ 51 ⌝ }
-    ensures ink { λ r. ⌜ inkOf (now (sheet .exit)) ≡ inkOf (now (sheet .entry)) ++ 32 ∷ v .letter ∷ [] ⌝ }
+    ensures ink { λ r. ⌜ inkOf (now (sheet .exit)) ≡ inkOf (now (sheet .entry)) ++ 32 ∷ variableText v ⌝ }
     ensures len { λ r. ⌜ now (sheet .exit) .len ≡ now (sheet .entry) .len + 2 ⌝ }
 {
     put_word(sheet, &[v.letter()]);

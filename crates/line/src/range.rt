@@ -40,12 +40,7 @@ fn narrow_operand(operand: Operand<i64>) -> Option<Operand>
 {
     match operand {
         Operand::Var(v) => Some(Operand::Var(v)),
-        Operand::Num(n) => {
-            if n < -2147483648 || n > 2147483647 {
-                return None;
-            }
-            Some(Operand::Num(n as i32))
-        }
+        Operand::Num(n) => Some(Operand::Num(numeral::narrow(n)?)),
     }
 }
 

@@ -1,6 +1,6 @@
 // A line from its text, or the first flaw in it.
 ghost use mathlib.Core.Path.{_≡_};
-ghost use Rattle.line.specs.Readings.{reading, Clean, Reads};
+ghost use Rattle.line.specs.Readings.{reading, Clean, Reads, Sorts};
 use crate::class::first_foreign;
 use crate::parse::parse;
 use crate::range::first_beyond;
@@ -36,16 +36,24 @@ fn read_clean(text: &[u8]) -> Result<Line, Flaw>
     }
 }
 
+// The flaw of a text that is too long or has a foreign byte.
+fn unclean(text: &[u8]) -> Option<Flaw>
+    ensures { λ r. ⌜ Sorts (now (text .entry)) r ⌝ }
+{
+    if text.len() > MOST {
+        return Some(flaw(Kind::TooLong, MOST + 1));
+    }
+    let column = first_foreign(text)?;
+    Some(flaw(Kind::ForeignByte, column))
+}
+
 // The line that the text spells, or the first flaw that fits.
 pub fn read(text: &[u8]) -> Result<Line, Flaw>
     ensures value { λ r. ⌜ r ≡ reading (now (text .entry)) ⌝ }
     ensures grammar { λ r. ⌜ Reads (now (text .entry)) r ⌝ }
 {
-    if text.len() > MOST {
-        return Err(flaw(Kind::TooLong, MOST + 1));
-    }
-    match first_foreign(text) {
-        Some(column) => Err(flaw(Kind::ForeignByte, column)),
+    match unclean(text) {
+        Some(flaw) => Err(flaw),
         None => read_clean(text),
     }
 }

@@ -5,10 +5,11 @@ ghost use Prim.Native.Nat.{ℕ, _+_, _<_, _≤_};
 ghost use lib.ListN.{length};
 ghost use Rattle.std.specs.Written.{decimal, signed};
 ghost use Rattle.line.specs.Sheets.{inkOf};
+use crate::print::LONGEST;
 
 #[derive(Drop)]
 pub(crate) struct Sheet {
-    pub(crate) bytes: [u8; 51],
+    pub(crate) bytes: [u8; LONGEST],
     pub(crate) len: usize,
 }
 

@@ -81,8 +81,5 @@ pub(crate) fn operand_of(token: &[u8]) -> Option<Operand<i64>>
     if let Some(v) = Variable::from_token(token) {
         return Some(Operand::Var(v));
     }
-    match wide_value(token) {
-        Some(n) => Some(Operand::Num(n)),
-        None => None,
-    }
+    Some(Operand::Num(wide_value(token)?))
 }

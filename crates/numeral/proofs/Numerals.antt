@@ -1,24 +1,22 @@
 -- How the tests on a number's spelling read. Assumes nothing.
 use mathlib.Core.Path.{_≡_, refl, sym, ap, subst, _∙_}
 use mathlib.Core.Bool.{Bool, true, false, cond, _&&_}
-use mathlib.Core.List.{List, [], _∷_, _++_}
-use Prim.Native.Nat.{ℕ, zero, suc, _+_, _-_, _^_, _<_, _≤_}
+use mathlib.Core.List.{List, [], _∷_}
+use Prim.Native.Nat.{ℕ, zero, suc, _-_, _^_, _<_, _≤_}
 use lib.IntN.{ℤ, pos, negsuc, negℤ, natAbs}
 use lib.Signed.{mag}
 use Rattle.std.specs.Written.{decimal, signed}
 use Rattle.std.proofs.shelf.Decimals.{decimal-value, decimal-digit, decimal-reads, decimal-some, first-decimal, digits-decimal, length-decimal-le, ascii-signed}
 use native.Mathlib.Nat.{le-refl}
-use native.Mathlib.Numerals.{add-one}
 use native.Mathlib.Omega.{arith}
-use lib.Seq.{drop-cons}
-use lib.Dec.{eqb, leb, ltb}
+use lib.Dec.{eqb, leb}
 use lib.ListN.{length, getD, take, drop}
-use Rattle.std.specs.Text.{Utf8, Ascii, asciiDigit, within}
+use Rattle.std.specs.Text.{Utf8, Ascii, within}
 use Rattle.std.specs.declared.option.Option.the-variants.{Some, None}
 use Rattle.std.proofs.shelf.Text.{utf8-from-ascii}
 use Rattle.std.specs.shelf.Text.{allDigits}
 use Rattle.std.proofs.shelf.Parts.{between-to-end}
-use Rattle.std.proofs.shelf.Tests.{le-leb, and-from, and-parts, eq-eqb, ne-eqb, leb-true, eqb-true, ltb-true, cases-lt, cases-bool, cond-both, false≢true}
+use Rattle.std.proofs.shelf.Tests.{le-leb, and-from, and-parts, eq-eqb, ne-eqb, leb-true, eqb-true, cases-lt, cases-bool, cond-both, false≢true}
 use Rattle.std.proofs.shelf.Numerals.{Numerals, numerals-by-value, tells-allDigits, value-short}
 use Rattle.std.specs.Reads.{value, Numeral, afterSign, signedValue}
 use mathlib.Core.Logic.{⊎-elim}
@@ -174,18 +172,6 @@ reads (pos (suc n)) b =
 reads (negsuc n) b =
     let p = split (decimal (suc n)) (decimal-some (suc n) (omega arith)) in reads-minus n (p .0) (p .1) b (p .2)
 
-mag-neg : (v n : ℕ) → v < n → mag (negℤ (pos v)) < n
-mag-neg zero n h = h
-mag-neg (suc k) n h = omega arith
-
-pub spelling-mag : (t : List ℕ) → Spelling t → mag (signedValue 10 t) < 10 ^ 10
-spelling-mag t nought = omega arith
-spelling-mag t (plain d ds l) = rw (plain-value d ds l) (led-value d ds l)
-spelling-mag t (minus d ds l) = mag-neg (value 10 (d ∷ ds)) (10 ^ 10) (led-value d ds l)
-
-pub spelling-utf8 : (t : List ℕ) → Spelling t → Utf8 t
-spelling-utf8 t s = utf8-from-ascii t (subst Ascii (spelling-signed t s) (ascii-signed (signedValue 10 t) (omega (arith, spelling-mag t s))))
-
 abs-neg : (v : ℕ) → natAbs (negℤ (pos v)) ≡ v
 abs-neg zero = refl
 abs-neg (suc k) = refl
@@ -194,6 +180,16 @@ pub spelling-short : (t : List ℕ) → Spelling t → Short (signedValue 10 t)
 spelling-short t nought = omega arith
 spelling-short t (plain d ds l) = rw (plain-value d ds l) (led-value d ds l)
 spelling-short t (minus d ds l) = rw (abs-neg (value 10 (d ∷ ds))) (led-value d ds l)
+
+mag-abs : (z : ℤ) → mag z ≤ natAbs z
+mag-abs (pos n) = omega arith
+mag-abs (negsuc n) = omega arith
+
+pub spelling-mag : (t : List ℕ) → Spelling t → mag (signedValue 10 t) < 10 ^ 10
+spelling-mag t s = omega (arith, mag-abs (signedValue 10 t), spelling-short t s)
+
+pub spelling-utf8 : (t : List ℕ) → Spelling t → Utf8 t
+spelling-utf8 t s = utf8-from-ascii t (subst Ascii (spelling-signed t s) (ascii-signed (signedValue 10 t) (omega (arith, spelling-mag t s))))
 
 -- the number that a text of the shape is read as is the one that it spells
 pub spelt-some : (t : List ℕ) → shaped t ≡ true → Spelt t (Some (intOf t))

@@ -50,9 +50,17 @@ abbrev pub Spelt : List ℕ → Option ℤ → Type 0
 Spelt t (Some z) = (t ≡ signed z) × Short z
 Spelt t None = (z : ℤ) → Short z → t ≡ signed z → ⊥
 
+-- the same number, where it fits
+abbrev pub narrowOf : ℤ → Option ℤ
+narrowOf z = cond (fits z) (Some z) None
+
+abbrev pub held : Option ℤ → Numeral
+held None = OutOfRange
+held (Some z) = Value z
+
 abbrev pub narrowed : Option ℤ → Numeral
 narrowed None = NotANumber
-narrowed (Some z) = cond (fits z) (Value z) OutOfRange
+narrowed (Some z) = held (narrowOf z)
 
 abbrev pub numeralOf : List ℕ → Numeral
 numeralOf t = narrowed (wideOf t)

@@ -3,7 +3,7 @@ ghost use mathlib.Core.Path.{_≡_};
 ghost use Rattle.std.specs.shelf.Text.{allDigits};
 ghost use mathlib.Core.Bool.{true, false};
 ghost use Rattle.std.specs.declared.option.Option.the-variants.{Some, None};
-ghost use Rattle.numeral.specs.Numbers.{leads, shaped, intOf, wideOf, numeralOf, Spelt};
+ghost use Rattle.numeral.specs.Numbers.{leads, shaped, intOf, wideOf, narrowOf, numeralOf, Spelt};
 use std::str::from_utf8;
 
 // What a text is as a number of 32 signed bits.
@@ -82,17 +82,22 @@ pub fn wide_value(text: &[u8]) -> Option<i64>
     }
 }
 
+// The same number, where 32 signed bits hold it.
+pub fn narrow(number: i64) -> Option<i32>
+    ensures { λ r. ⌜ r ≡ narrowOf number ⌝ }
+{
+    i32::try_from(number).ok()
+}
+
 // The number of 32 signed bits that the text spells.
 pub fn numeral_of(text: &[u8]) -> Numeral
     ensures { λ r. ⌜ r ≡ numeralOf (now (text .entry)) ⌝ }
 {
     match wide_value(text) {
         None => Numeral::NotANumber,
-        Some(n) => {
-            if n < -2147483648 || n > 2147483647 {
-                return Numeral::OutOfRange;
-            }
-            Numeral::Value(n as i32)
-        }
+        Some(number) => match narrow(number) {
+            Some(value) => Numeral::Value(value),
+            None => Numeral::OutOfRange,
+        },
     }
 }

@@ -123,3 +123,25 @@ fn a_list_of_edits(rt: LibcRuntime) -> Result<(), Fail> {
     check_eq(made.draft.print(2, &mut buffer), Ok(16))?;
     check_eq(buffer, *b"out put 1 -> end")
 }
+
+#[test]
+fn edits_on_a_draft_with_lines(rt: LibcRuntime) -> Result<(), Fail> {
+    let mut draft = Draft::new(rt.alloc())?;
+    check_eq(draft.apply(Edit::Add(b"a pass -> b")), Ok(1))?;
+    let answers = draft.apply_all(
+        rt.alloc(),
+        &[
+            Edit::Add(b"b halt"),
+            Edit::Mend(1, b"c halt"),
+            Edit::Add(b"b"),
+        ],
+    )?;
+    check(answers.len() == 3)?;
+    check_eq(answers[0], Ok(2))?;
+    check_eq(answers[1], Ok(1))?;
+    check_eq(answers[2], refused(Kind::NotALine, 3, 2))?;
+    let mut buffer = [0u8; 6];
+    check_eq(draft.print(1, &mut buffer), Ok(6))?;
+    check_eq(buffer, *b"c halt")?;
+    check_eq(draft.len(), 2)
+}

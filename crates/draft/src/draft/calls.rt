@@ -1,19 +1,32 @@
 // The calls on a draft: each does what a plain list of lines does.
 ghost use mathlib.Core.Path.{_≡_};
 ghost use mathlib.Core.List.{[]};
+ghost use lib.IntN.{ℤ};
 ghost use lib.ListN.{length};
 ghost use Rattle.std.specs.Options.{mapped};
 ghost use Rattle.std.specs.Vec.{made};
-ghost use Rattle.draft.specs.Plain.{linesOf, added, mended, struck, lineAt, Answered, PrintsLine};
+ghost use Rattle.std.specs.declared.option.Option.the-variants.{Some};
+ghost use Rattle.line.specs.declared.syntax.Line.{Line};
+ghost use Rattle.draft.specs.Plain.{linesOf, plainFault, added, mended, struck, lineAt, Answered, PrintsLine, ReadsBack};
 use crate::draft::Draft;
 use crate::draft::MOST_LINES;
 use fault::Fault;
-use fault::Flaw;
 use fault::Kind;
 use line::Line;
 use line::read;
 use std::alloc::AllocError;
 use std::alloc::Global;
+
+// A refusal where no column has a meaning.
+fn without_column(kind: Kind, line: usize) -> Fault
+    ensures { λ r. ⌜ r ≡ plainFault kind line ⌝ }
+{
+    Fault {
+        kind,
+        line,
+        column: 0,
+    }
+}
 
 impl Draft {
     // A draft without lines, or a refusal where there is no memory for 96.
@@ -51,11 +64,7 @@ impl Draft {
             Err(flaw) => return Err(flaw.on(number)),
         };
         if number > MOST_LINES {
-            return Err(Fault {
-                kind: Kind::DraftFull,
-                line: number,
-                column: 0,
-            });
+            return Err(without_column(Kind::DraftFull, number));
         }
         self.lines.push_reserved(line);
         Ok(number)
@@ -66,11 +75,7 @@ impl Draft {
         ensures { λ r. ⌜ Answered (mended number (now (text .entry)) (linesOf (now (self .entry)))) r (linesOf (now (self .exit))) ⌝ }
     {
         if number == 0 || number > self.len() {
-            return Err(Fault {
-                kind: Kind::NoSuchLine,
-                line: number,
-                column: 0,
-            });
+            return Err(without_column(Kind::NoSuchLine, number));
         }
         match read(text) {
             Ok(line) => {
@@ -88,24 +93,17 @@ impl Draft {
         let number = self.len();
         match self.lines.pop() {
             Some(_) => Ok(number),
-            None => Err(Fault {
-                kind: Kind::NoSuchLine,
-                line: 0,
-                column: 0,
-            }),
+            None => Err(without_column(Kind::NoSuchLine, 0)),
         }
     }
 
     // Writes the line of that number to the buffer's start and answers its length.
     pub fn print(&self, number: usize, out: &mut [u8]) -> Result<usize, Fault>
-        ensures { λ r. ⌜ PrintsLine number (linesOf (now (self .entry))) (now (out .entry)) r (now (out .exit)) ⌝ }
+        ensures prints { λ r. ⌜ PrintsLine number (linesOf (now (self .entry))) (now (out .entry)) r (now (out .exit)) ⌝ }
+        ensures back { λ r. ⌜ ((x : Line ℤ) → lineAt number (linesOf (now (self .entry))) ≡ Some x → ReadsBack x) ⌝ }
     {
         match self.line(number) {
-            None => Err(Fault {
-                kind: Kind::NoSuchLine,
-                line: number,
-                column: 0,
-            }),
+            None => Err(without_column(Kind::NoSuchLine, number)),
             Some(line) => match line.print(out) {
                 Ok(size) => Ok(size),
                 Err(flaw) => Err(flaw.on(number)),

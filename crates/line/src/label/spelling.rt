@@ -4,13 +4,14 @@ ghost use Prim.Native.Nat.{_≤_};
 ghost use lib.ListN.{length};
 ghost use Rattle.line.specs.Names.{allLetters};
 ghost use Rattle.line.specs.Words.{labelOf, labelText};
+use crate::class::is_letter;
 use crate::label::Label;
 
 fn all_letters(token: &[u8]) -> bool
     ensures { λ r. ⌜ r ≡ allLetters (now (token .entry)) ⌝ }
 {
     for b in token {
-        if !b.is_ascii_lowercase() {
+        if !is_letter(*b) {
             return false;
         }
     }

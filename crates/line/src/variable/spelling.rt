@@ -1,6 +1,7 @@
 // Variables and the tokens that spell them.
 ghost use mathlib.Core.Path.{_≡_};
 ghost use Rattle.line.specs.Words.{variableOf};
+use crate::class::is_letter;
 use crate::variable::Variable;
 
 impl Variable {
@@ -9,14 +10,7 @@ impl Variable {
         ensures { λ r. ⌜ r ≡ variableOf (now (token .entry)) ⌝ }
     {
         match token {
-            [letter] => {
-                let letter = *letter;
-                if letter.is_ascii_lowercase() {
-                    Some(Variable { letter })
-                } else {
-                    None
-                }
-            }
+            [letter] if is_letter(*letter) => Some(Variable { letter: *letter }),
             _ => None,
         }
     }

@@ -1,4 +1,3 @@
-use native.Mathlib.Omega.{arith}
 use borrow.Author.Needs.{needs}
 use Rattle.numeral.proofs.Numerals.{shaped-minus}
 use Rattle.numeral.proofs.has_shape.Needs as need

@@ -1,4 +1,4 @@
-use mathlib.Core.Path.{sym, ap, subst, _≡_, _∙_}
+use mathlib.Core.Path.{sym, subst, _≡_}
 use mathlib.Core.List.{List}
 use mathlib.Core.Bool.{true}
 use Prim.Native.Nat.{ℕ}

@@ -1,8 +1,8 @@
-use mathlib.Core.Path.{_≡_, refl, sym, ap, _∙_}
-use Prim.Native.Nat.{ℕ, _-_, _≤_}
+use mathlib.Core.Path.{_≡_, sym, ap, _∙_}
+use Prim.Native.Nat.{ℕ, _-_}
 use native.Mathlib.Nat.{le-refl}
 use native.Mathlib.Omega.{arith}
-use lib.ListN.{length, take}
+use lib.ListN.{take}
 use borrow.Author.Needs.{needs}
 use Rattle.std.proofs.shelf.Lists.{take-rest, take-all, drop-all}
 use Rattle.console.proofs.Cuts.{pass-on, word-met, after-met, word-whole, after-whole}
@@ -11,7 +11,6 @@ use Rattle.console.proofs.command.cut.Needs as need
 from-zero : (n : ℕ) → n - 0 ≡ n
 from-zero n = omega arith
 
--- src/command.rt:37:13
 pub returns-then-b-eq32 : need.returns-then-b-eq32
 returns-then-b-eq32 c =
     let s = c .args .line .now in
@@ -20,11 +19,9 @@ returns-then-b-eq32 c =
       rest = take-rest s _ ∙ sym (after-met s _ (c .loop-i-test .taken) (search needs) (c .loop-i .inv));
     }
 
--- src/command.rt:35:5
 pub loop-i-again : need.loop-i-again
 loop-i-again c = pass-on _ _ (c .loop-i-test .taken) (search needs) (c .loop-i .inv)
 
--- src/command.rt:31:1
 pub returns : need.returns
 returns c =
     let s = c .args .line .now in

@@ -1,7 +1,6 @@
 use mathlib.Core.Path.{sym, _∙_}
-use borrow.Author.Needs.{needs}
 use borrow.Author.Tests.{true-eqb}
-use Rattle.console.proofs.Digits.{nothing-left}
+use Rattle.numeral.proofs.Scans.{nothing-left}
 use Rattle.console.proofs.command.mend_of.Needs as need
 
 pub returns-then-is-empty : need.returns-then-is-empty

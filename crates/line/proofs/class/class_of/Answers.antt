@@ -1,5 +1,4 @@
 use borrow.Author.Needs.{needs}
-use native.Mathlib.Omega.{arith}
 use mathlib.Core.Path.{refl}
 use Rattle.line.specs.Classes.{classOf}
 use Rattle.line.specs.declared.class.Class.the-variants.{Space}

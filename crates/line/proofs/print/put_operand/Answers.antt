@@ -1,7 +1,6 @@
 use mathlib.Core.Path.{_≡_, sym, ap, subst, _∙_}
-use mathlib.Core.Bool.{true}
 use mathlib.Core.List.{[], _∷_, _++_}
-use Prim.Native.Nat.{_≤_, _<_, _^_}
+use Prim.Native.Nat.{_<_, _^_}
 use borrow.Author.Needs.{needs}
 use native.Mathlib.Omega.{arith}
 use lib.Signed.{mag}

@@ -1,9 +1,7 @@
-use mathlib.Core.Path.{_≡_, sym, ap, subst, _∙_}
+use mathlib.Core.Path.{sym, ap, subst, _∙_}
 use mathlib.Core.List.{[], _∷_, _++_}
-use borrow.Author.Needs.{needs}
 use native.Mathlib.Omega.{arith}
 use lib.Chars.{codes}
-use lib.ListN.{length}
 use Rattle.line.specs.Sheets.{inkOf}
 use Rattle.line.specs.Grammar.{spaced, spellAction, spellStatement, spellOperand, EachStatement, Fits}
 use Rattle.line.specs.Words.{labelText}
