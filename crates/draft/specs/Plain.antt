@@ -46,7 +46,7 @@ refuses f ls = record { answer = Err f; lines = ls }
 abbrev pub plainFault : Kind → ℕ → Fault
 plainFault k n = record { kind = k; line = n; column = 0 }
 
--- where the text reads as a line
+-- where the text reads as a line, go on with it; else the flaw, as one of line n
 abbrev pub withLine : ℕ → Lines → Result (Line ℤ) Flaw → (Line ℤ → Outcome) → Outcome
 withLine n ls (Err f) k = refuses (placed f n) ls
 withLine n ls (Ok x) k = k x
@@ -77,9 +77,11 @@ abbrev pub printing : ℕ → Option (Line ℤ) → Text → Result ℕ Fault ×
 printing n None before = (Err (plainFault NoSuchLine n), before)
 printing n (Some x) before = cond (ltb (length before) (length (printed x))) (Err (plainFault ShortBuffer n), before) (Ok (length (printed x)), printed x ++ drop (length (printed x)) before)
 
+-- the line of that number, counted from 1
 abbrev pub lineAt : ℕ → Lines → Option (Line ℤ)
 lineAt n ls = cond (absent n ls) None (nth ls (n - 1))
 
+-- the call answered that, and left that in the buffer
 abbrev pub PrintsLine : ℕ → Lines → Text → Result ℕ Fault → Text → Type 0
 PrintsLine n ls before r after = (r ≡ printing n (lineAt n ls) before .0) × (after ≡ printing n (lineAt n ls) before .1)
 

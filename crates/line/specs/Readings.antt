@@ -25,14 +25,17 @@ use Rattle.line.specs.Words.{Text}
 abbrev pub flaw : Kind → ℕ → Flaw
 flaw k c = record { kind = k; column = c }
 
+-- a text that has the shape of a line, by the column of the first number out of range
 abbrev pub ranged : Line ℤ → Option ℕ → Result (Line ℤ) Flaw
 ranged x None = Ok x
 ranged x (Some c) = Err (flaw OutOfRange c)
 
+-- a clean text, by what its tokens spell or where they stop to begin a line
 abbrev pub spelt : Text → Result (Line ℤ) ℕ → Result (Line ℤ) Flaw
 spelt bs (Err c) = Err (flaw NotALine c)
 spelt bs (Ok x) = ranged x (beyondAt (pieces 1 bs))
 
+-- a text of at most 80 bytes, by the column of the first foreign byte
 abbrev pub clean : Text → Option ℕ → Result (Line ℤ) Flaw
 clean bs (Some c) = Err (flaw ForeignByte c)
 clean bs None = spelt bs (parsed bs)
