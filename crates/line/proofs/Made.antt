@@ -22,9 +22,9 @@ use Rattle.line.specs.declared.word.Word.the-variants as word
 use Rattle.line.specs.Grammar.{spell, spellAction, spellOperand, spellOperator, Wide, EachOperand, EachAction}
 use Rattle.line.specs.Pieces.{Piece}
 use Rattle.line.specs.Readings.{texts}
-use Rattle.line.specs.States.{State, start, named, setting, sourcing, held, joining, putting, testing, acted, tested, leading, branching, forking, done, line, onto, begun, sourced, eitherOp, equals, arrow, equalsOf, arrowOf, step, closed, run, follow}
-use Rattle.line.specs.Words.{Text, labelText, variableText, wordOf, variableOf, operatorOf, labelOf, operandOf}
-use Rattle.line.proofs.Tokens.{WordIs, word-is, OpIs, op-is, label-is, variable-is, operand-is}
+use Rattle.line.specs.States.{State, start, named, setting, sourcing, held, joining, putting, testing, acted, tested, leading, branching, forking, done, line, onto, begun, sourced, eitherOp, step, closed, run, follow}
+use Rattle.line.specs.Words.{Text, exactly, labelText, variableText, wordOf, variableOf, operatorOf, labelOf, operandOf}
+use Rattle.line.proofs.Tokens.{exactly-is, WordIs, word-is, OpIs, op-is, label-is, variable-is, operand-is}
 use Rattle.line.proofs.Walks.{none-some}
 
 abbrev pub Made : State → List Text → Type 0
@@ -53,26 +53,6 @@ onto-inv : {A : Type 0} (o : Option A) (k : A → State) (u : State) (P : State 
 onto-inv None k u P e f = absurd (none-some u e)
 onto-inv (Some a) k u P e f = some-inv (k a) u P e (f a refl)
 
-arrow-is : (t : Text) (w : Word) (x : Unit {0}) → WordIs t w → arrow w ≡ Some x → t ≡ codes "->"
-arrow-is t word.Arrow x i e = i
-arrow-is t word.Pass x i e = absurd (none-some x e)
-arrow-is t word.Halt x i e = absurd (none-some x e)
-arrow-is t word.If x i e = absurd (none-some x e)
-arrow-is t word.Get x i e = absurd (none-some x e)
-arrow-is t word.Put x i e = absurd (none-some x e)
-arrow-is t word.Equals x i e = absurd (none-some x e)
-arrow-is t word.Other x i e = absurd (none-some x e)
-
-equals-is : (t : Text) (w : Word) (x : Unit {0}) → WordIs t w → equals w ≡ Some x → t ≡ codes "="
-equals-is t word.Equals x i e = i
-equals-is t word.Pass x i e = absurd (none-some x e)
-equals-is t word.Halt x i e = absurd (none-some x e)
-equals-is t word.If x i e = absurd (none-some x e)
-equals-is t word.Get x i e = absurd (none-some x e)
-equals-is t word.Put x i e = absurd (none-some x e)
-equals-is t word.Arrow x i e = absurd (none-some x e)
-equals-is t word.Other x i e = absurd (none-some x e)
-
 -- one more token: a step from ts with the token t
 module _ (t : Text) (u : State) (ts : List Text) where
   begun-made : (l : Label) (w : Word) → ts ≡ labelText l ∷ [] → WordIs t w → begun l w (variableOf t) ≡ Some u → Made u (ts ++ t ∷ [])
@@ -81,8 +61,6 @@ module _ (t : Text) (u : State) (ts : List Text) where
   begun-made l word.If m i e = some-inv (testing l) u (λ s. Made s (ts ++ t ∷ [])) e (grow ts _ t _ m i)
   begun-made l word.Put m i e = some-inv (putting l) u (λ s. Made s (ts ++ t ∷ [])) e (grow ts _ t _ m i)
   begun-made l word.Get m i e = absurd (none-some u e)
-  begun-made l word.Equals m i e = absurd (none-some u e)
-  begun-made l word.Arrow m i e = absurd (none-some u e)
   begun-made l word.Other m i e =
       onto-inv (variableOf t) (setting l) u (λ s. Made s (ts ++ t ∷ [])) e (λ v q. grow ts (labelText l ∷ []) t (variableText v) m (sym (variable-is t v q)))
 
@@ -96,14 +74,12 @@ module _ (t : Text) (u : State) (ts : List Text) where
   sourced-made l v word.Halt m i e = source-made l v m e
   sourced-made l v word.If m i e = source-made l v m e
   sourced-made l v word.Put m i e = source-made l v m e
-  sourced-made l v word.Equals m i e = source-made l v m e
-  sourced-made l v word.Arrow m i e = source-made l v m e
   sourced-made l v word.Other m i e = source-made l v m e
 
-  held-made : (l : Label) (v : Variable) (o : Operand ℤ) (op : Option Operator) → Made (held l v o) ts → OpIs t op → eitherOp op (joining l v o) (onto (arrowOf t) (λ x. leading l (Set v o))) ≡ Some u → Made u (ts ++ t ∷ [])
+  held-made : (l : Label) (v : Variable) (o : Operand ℤ) (op : Option Operator) → Made (held l v o) ts → OpIs t op → eitherOp op (joining l v o) (onto (exactly (codes "->") t) (λ x. leading l (Set v o))) ≡ Some u → Made u (ts ++ t ∷ [])
   held-made l v o (Some p) m i e = some-inv (joining l v o p) u (λ s. Made s (ts ++ t ∷ [])) e (m .0, grow ts _ t _ (m .1) i)
   held-made l v o None m i e =
-      onto-inv (arrowOf t) (λ x. leading l (Set v o)) u (λ s. Made s (ts ++ t ∷ [])) e (λ x q. (m .0, grow ts _ t _ (m .1) (arrow-is t (wordOf t) x (word-is t) q)))
+      onto-inv (exactly (codes "->") t) (λ x. leading l (Set v o)) u (λ s. Made s (ts ++ t ∷ [])) e (λ x q. (m .0, grow ts _ t _ (m .1) (exactly-is (codes "->") t x q)))
 
 -- one token after the arrow
 arrowed : (l : Text) (ss ws : List Text) (t a : Text) (ts : List Text) → ts ≡ l ∷ (ss ++ ws) → t ≡ a → ts ++ t ∷ [] ≡ l ∷ (ss ++ (ws ++ a ∷ []))
@@ -113,7 +89,7 @@ pub step-made : (s u : State) (t : Text) (ts : List Text) → Made s ts → step
 step-made start u t ts m e = onto-inv (labelOf t) named u (λ s. Made s (ts ++ t ∷ [])) e (λ l q. grow ts [] t (labelText l) m (sym (label-is t l q)))
 step-made (named l) u t ts m e = begun-made t u ts l (wordOf t) m (word-is t) e
 step-made (setting l v) u t ts m e =
-    onto-inv (equalsOf t) (λ x. sourcing l v) u (λ s. Made s (ts ++ t ∷ [])) e (λ x q. grow ts _ t _ m (equals-is t (wordOf t) x (word-is t) q))
+    onto-inv (exactly (codes "=") t) (λ x. sourcing l v) u (λ s. Made s (ts ++ t ∷ [])) e (λ x q. grow ts _ t _ m (exactly-is (codes "=") t x q))
 step-made (sourcing l v) u t ts m e = sourced-made t u ts l v (wordOf t) m (word-is t) e
 step-made (held l v o) u t ts m e = held-made t u ts l v o (operatorOf t) m (op-is t) e
 step-made (joining l v o p) u t ts m e =
@@ -123,9 +99,9 @@ step-made (putting l) u t ts m e =
 step-made (testing l) u t ts m e =
     onto-inv (operandOf t) (λ o. tested l o) u (λ s. Made s (ts ++ t ∷ [])) e (λ o q. let i = operand-is t o q in (i .short, grow ts _ t _ m (sym (i .text-is))))
 step-made (acted l a) u t ts m e =
-    onto-inv (arrowOf t) (λ x. leading l a) u (λ s. Made s (ts ++ t ∷ [])) e (λ x q. (m .0, grow ts (labelText l ∷ spellAction a) t (codes "->") (m .1) (arrow-is t (wordOf t) x (word-is t) q)))
+    onto-inv (exactly (codes "->") t) (λ x. leading l a) u (λ s. Made s (ts ++ t ∷ [])) e (λ x q. (m .0, grow ts (labelText l ∷ spellAction a) t (codes "->") (m .1) (exactly-is (codes "->") t x q)))
 step-made (tested l o) u t ts m e =
-    onto-inv (arrowOf t) (λ x. branching l o) u (λ s. Made s (ts ++ t ∷ [])) e (λ x q. (m .0, grow ts _ t _ (m .1) (arrow-is t (wordOf t) x (word-is t) q)))
+    onto-inv (exactly (codes "->") t) (λ x. branching l o) u (λ s. Made s (ts ++ t ∷ [])) e (λ x q. (m .0, grow ts _ t _ (m .1) (exactly-is (codes "->") t x q)))
 step-made (leading l a) u t ts m e =
     onto-inv (labelOf t) (λ n. done (line l (Then a n))) u (λ s. Made s (ts ++ t ∷ [])) e
     (λ n q. (m .0, arrowed (labelText l) (spellAction a) (codes "->" ∷ []) t (labelText n) ts (m .1) (sym (label-is t n q))))

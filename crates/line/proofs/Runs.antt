@@ -2,6 +2,7 @@
 use mathlib.Core.Path.{_≡_, refl, sym, ap, subst, _∙_}
 use mathlib.Core.List.{List, [], _∷_}
 use Prim.Native.Nat.{ℕ}
+use lib.Chars.{codes}
 use lib.IntN.{ℤ}
 use Rattle.std.specs.Options.{okOr}
 use Rattle.std.specs.declared.option.Option.{Option}
@@ -14,12 +15,13 @@ use Rattle.line.specs.declared.syntax.Action.{Action}
 use Rattle.line.specs.declared.syntax.Action.the-variants as act
 use Rattle.line.specs.declared.syntax.Operand.{Operand}
 use Rattle.line.specs.declared.syntax.Operator.{Operator}
+use Rattle.line.specs.declared.syntax.Statement.the-variants as says
 use Rattle.line.specs.declared.variable.Variable.{Variable}
 use Rattle.line.specs.declared.word.Word.{Word}
-use Rattle.line.specs.declared.word.Word.the-variants.{Pass, Halt, If, Get, Put, Equals, Arrow, Other}
+use Rattle.line.specs.declared.word.Word.the-variants.{Pass, Halt, If, Get, Put, Other}
 use Rattle.line.specs.Pieces.{Piece, Next}
-use Rattle.line.specs.Words.{Text, wordOf, variableOf, operatorOf, operandOf}
-use Rattle.line.specs.States.{State, held, joining, named, sourcing, leading, acted, setting, equalsOf, Joined, Assigned, Gave, Took, run, step, onto, follow, begun, sourced, eitherOp, arrowOf}
+use Rattle.line.specs.Words.{Text, exactly, wordOf, variableOf, operatorOf, operandOf, labelOf}
+use Rattle.line.specs.States.{State, held, joining, named, sourcing, leading, acted, setting, Joined, Assigned, Gave, Took, run, step, onto, follow, begun, sourced, eitherOp, tested, branching, forking, done, line}
 
 pub took : {A : Type 0} (f : Text → Option A) (end : ℕ) (ps : List Piece) (t : Token) (r : Result A ℕ) (after : List Piece) → Gave end ps (Ok t) after → r ≡ okOr (f (t .text .now)) (t .column) → Took f end ps r after
 took f end [] t r after g e = absurd g
@@ -54,8 +56,6 @@ sourced-other l v Pass o h = refl
 sourced-other l v Halt o h = refl
 sourced-other l v If o h = refl
 sourced-other l v Put o h = refl
-sourced-other l v Equals o h = refl
-sourced-other l v Arrow o h = refl
 sourced-other l v Other o h = refl
 
 pub source-step : (l : Label) (v : Variable) (t : Text) (o : Option (Operand ℤ)) → (wordOf t ≡ Get → ⊥) → operandOf t ≡ o → step (sourcing l v) t ≡ onto o (held l v)
@@ -65,7 +65,7 @@ source-step l v t o h e = sourced-other l v (wordOf t) (operandOf t) h ∙ ap (�
 pub second : (end far : ℕ) (ps mid after : List Piece) (t : Token) (op : Operator) (b : Operand ℤ) → Next ps (Some t) mid → Some op ≡ operatorOf (t .text .now) → far ≡ end → Took operandOf far mid (Ok b) after → (l : Label) (v : Variable) (o : Operand ℤ) → run end (held l v o) ps ≡ run end (acted l (act.Compute v o op b)) after
 second end far [] mid after t op b n e q g l v o = absurd n
 second end far (p ∷ ps) mid after t op b n e q g l v o =
-    ap (λ q. follow (p .column) (eitherOp q (joining l v o) (onto (arrowOf (p .text)) (λ u. leading l (act.Set v o)))) (λ u. run end u ps)) (ap operatorOf (sym (n .0)) ∙ sym e)
+    ap (λ q. follow (p .column) (eitherOp q (joining l v o) (onto (exactly (codes "->") (p .text)) (λ u. leading l (act.Set v o)))) (λ u. run end u ps)) (ap operatorOf (sym (n .0)) ∙ sym e)
     ∙ ap (run end (joining l v o op)) (sym (n .2))
     ∙ took-run operandOf end mid b after (joining l v o op) (λ x. acted l (act.Compute v o op x)) (λ x. refl) (subst (λ (k : ℕ). Took operandOf k mid (Ok b) after) q g)
 
@@ -76,9 +76,9 @@ worded end far ps mid after t w o l s k n e b h q g =
     ∙ took-run operandOf end mid o after s k h (subst (λ (j : ℕ). Took operandOf j mid (Ok o) after) q g)
 
 -- `=` and then a token other than `get`
-module _ (end far : ℕ) (ps mid rest : List Piece) (t : Token) (u : Unit {0}) (v : Variable) (first : Took equalsOf end ps (Ok u) mid) (same : far ≡ end) (next : Gave far mid (Ok t) rest) (other : wordOf (t .text .now) ≡ Get → ⊥) where
+module _ (end far : ℕ) (ps mid rest : List Piece) (t : Token) (u : Unit {0}) (v : Variable) (first : Took (exactly (codes "=")) end ps (Ok u) mid) (same : far ≡ end) (next : Gave far mid (Ok t) rest) (other : wordOf (t .text .now) ≡ Get → ⊥) where
   after-equals : (l : Label) → run end (setting l v) ps ≡ run end (sourcing l v) mid
-  after-equals l = took-run equalsOf end ps u mid (setting l v) (λ x. sourcing l v) (λ x. refl) first
+  after-equals l = took-run (exactly (codes "=")) end ps u mid (setting l v) (λ x. sourcing l v) (λ x. refl) first
 
   given : Gave end mid (Ok t) rest
   given = subst (λ (k : ℕ). Gave k mid (Ok t) rest) same next
@@ -93,3 +93,10 @@ module _ (end far : ℕ) (ps mid rest : List Piece) (t : Token) (u : Unit {0}) (
   assigned near o (Err c) after e q j = λ l.
       after-equals l ∙ gave-some end mid rest t (sourcing l v) (held l v o) given (source-step l v (t .text .now) (Some o) other (sym e))
       ∙ subst (λ (k : ℕ). run k (held l v o) rest ≡ Err c) q (j l)
+
+-- the arrow of a branch, and its two labels
+pub branched : (end near far : ℕ) (ps mid rest after : List Piece) (o : Operand ℤ) (a b : Label) (u : Unit {0}) → Took (exactly (codes "->")) end ps (Ok u) mid → near ≡ end → Took labelOf near mid (Ok a) rest → far ≡ end → Took labelOf far rest (Ok b) after → (l : Label) → run end (tested l o) ps ≡ run end (done (line l (says.If o a b))) after
+branched end near far ps mid rest after o a b u g p h q k l =
+    took-run (exactly (codes "->")) end ps u mid (tested l o) (λ x. branching l o) (λ x. refl) g
+    ∙ took-run labelOf end mid a rest (branching l o) (λ x. forking l o x) (λ x. refl) (subst (λ (j : ℕ). Took labelOf j mid (Ok a) rest) p h)
+    ∙ took-run labelOf end rest b after (forking l o a) (λ x. done (line l (says.If o a x))) (λ x. refl) (subst (λ (j : ℕ). Took labelOf j rest (Ok b) after) q k)

@@ -1,7 +1,8 @@
 -- What a token's spelling says of it, and back. Assumes nothing.
 use mathlib.Core.Path.{_≡_, refl, sym, ap, subst, _∙_}
 use mathlib.Core.HLevel.{isProp→PathP}
-use mathlib.Core.Bool.{Bool, true, false, _&&_, Bool-set}
+use mathlib.Core.Logic.{⊎-elim}
+use mathlib.Core.Bool.{Bool, true, false, _&&_, Bool-set, cond}
 use mathlib.Core.List.{[], _∷_, _++_}
 use Prim.Native.Nat.{ℕ, _-_, _≤_}
 use native.Mathlib.Nat.{sub-zero}
@@ -17,7 +18,7 @@ use Rattle.std.specs.declared.option.Option.{Option}
 use Rattle.std.specs.declared.option.Option.the-variants.{Some, None}
 use Rattle.std.proofs.shelf.Equals.{sameBytes-decides}
 use Rattle.std.proofs.shelf.Lists.{take-at}
-use Rattle.std.proofs.shelf.Tests.{cond-both, and-from, and-parts, eqb-true, leb-true, le-leb, lt-leb, false≢true}
+use Rattle.std.proofs.shelf.Tests.{cond-both, and-from, and-parts, eqb-true, leb-true, le-leb, lt-leb, false≢true, cases-bool}
 use Rattle.numeral.specs.Numbers.{Short, Spelt, wideOf}
 use Rattle.numeral.proofs.Numerals.{Spelling, nought, plain, minus, reads, wide-spelt, wide-back}
 use Rattle.line.specs.declared.label.Label.{Label}
@@ -27,10 +28,10 @@ use Rattle.line.specs.declared.syntax.Operator.the-variants.{Add, Sub, Mul, Di
 use Rattle.line.specs.declared.syntax.Operand.{Operand}
 use Rattle.line.specs.declared.syntax.Operand.the-variants.{Var, Num}
 use Rattle.line.specs.declared.word.Word.{Word}
-use Rattle.line.specs.declared.word.Word.the-variants.{Pass, Halt, If, Get, Put, Equals, Arrow, Other}
+use Rattle.line.specs.declared.word.Word.the-variants.{Pass, Halt, If, Get, Put, Other}
 use Rattle.line.specs.Grammar.{spellOperand, spellOperator, EachOperand}
 use Rattle.line.specs.Names.{allLetters, isWord, isName, padded, zeros, kept}
-use Rattle.line.specs.Words.{Text, wordOf, signOf, doubleOf, operatorOf, labelText, labelBy, labelOf, variableText, variableBy, variableOf, orNumber, operandOf}
+use Rattle.line.specs.Words.{Text, exactly, wordOf, signOf, doubleOf, operatorOf, labelText, labelBy, labelOf, variableText, variableBy, variableOf, orNumber, operandOf}
 use Rattle.line.proofs.Spelt.{past}
 
 is-text : (t w : Text) → sameBytes t w ≡ true → t ≡ w
@@ -43,8 +44,6 @@ WordIs t Halt = t ≡ codes "halt"
 WordIs t If = t ≡ codes "if"
 WordIs t Get = t ≡ codes "get"
 WordIs t Put = t ≡ codes "put"
-WordIs t Equals = t ≡ codes "="
-WordIs t Arrow = t ≡ codes "->"
 WordIs t Other = Unit {0}
 
 pub word-is : (t : Text) → WordIs t (wordOf t)
@@ -53,9 +52,14 @@ word-is t =
     cond-both (sameBytes t (codes "halt")) Halt _ (WordIs t) (is-text t _) (λ b.
     cond-both (sameBytes t (codes "if")) If _ (WordIs t) (is-text t _) (λ c.
     cond-both (sameBytes t (codes "get")) Get _ (WordIs t) (is-text t _) (λ d.
-    cond-both (sameBytes t (codes "put")) Put _ (WordIs t) (is-text t _) (λ e.
-    cond-both (sameBytes t (codes "=")) Equals _ (WordIs t) (is-text t _) (λ f.
-    cond-both (sameBytes t (codes "->")) Arrow Other (WordIs t) (is-text t _) (λ g. tt)))))))
+    cond-both (sameBytes t (codes "put")) Put Other (WordIs t) (is-text t _) (λ e. tt)))))
+
+-- a token that is spelt just so
+pub exactly-is : (w t : Text) (x : Unit {0}) → exactly w t ≡ Some x → t ≡ w
+exactly-is w t x e =
+    ⊎-elim (λ q. is-text t w q)
+    (λ q. let clash : None ≡ Some x = sym (ap (λ b. cond b (Some tt) None) q) ∙ e in let z : _≡_ {A = ℕ} 0 1 = cc in absurd (omega arith))
+    (cases-bool (sameBytes t w))
 
 -- operators
 abbrev pub OpIs : Text → Option Operator → Type 0
@@ -239,12 +243,10 @@ operand-back (Num z) p =
 -- a variable is no keyword
 pub variable-word : (v : Variable) → wordOf (variableText v) ≡ Other
 variable-word v =
-    let low : 97 ≤ v .letter = leb-true 97 (v .letter) (and-parts (leb 97 (v .letter)) (leb (v .letter) 122) (v .ok) .0) in
     let long : (w : Text) → (length w ≡ 1 → ⊥) → variableText v ≡ w → ⊥ = λ w h q. h (sym (ap length q)) in
     let t : Text = variableText v in
     sym (past t (codes "pass") Pass _ _ (long _ (λ q. omega arith)) (past t (codes "halt") Halt _ _ (long _ (λ q. omega arith)) (past t (codes "if") If _ _ (long _ (λ q. omega arith))
-    (past t (codes "get") Get _ _ (long _ (λ q. omega arith)) (past t (codes "put") Put _ _ (long _ (λ q. omega arith))
-    (past t (codes "=") Equals _ _ (λ q. let f : v .letter ≡ 61 = ap (λ (x : Text). getD x 0 0) q in omega arith) (past t (codes "->") Arrow Other _ (long _ (λ q. omega arith)) refl)))))))
+    (past t (codes "get") Get _ _ (long _ (λ q. omega arith)) (past t (codes "put") Put Other _ (long _ (λ q. omega arith)) refl)))))
 
 -- nor is a spelt operand
 operand-not-get : (o : Operand ℤ) → EachOperand Short o → spellOperand o ≡ codes "get" → ⊥

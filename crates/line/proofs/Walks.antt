@@ -20,8 +20,8 @@ use Rattle.line.specs.declared.variable.Variable.{Variable}
 use Rattle.line.specs.Grammar.{spell, spellAction, spellStatement, spellOperand, spellOperator, Wide, EachOperand, EachAction, EachStatement}
 use Rattle.line.specs.Pieces.{Piece}
 use Rattle.line.specs.Readings.{texts}
-use Rattle.line.specs.States.{State, start, named, setting, sourcing, held, joining, putting, testing, acted, tested, leading, branching, forking, done, line, onto, begun, eitherOp, arrowOf, step, closed, run, follow}
-use Rattle.line.specs.Words.{Text, labelText, variableText, variableOf, labelOf, operandOf, wordOf}
+use Rattle.line.specs.States.{State, start, named, setting, sourcing, held, joining, putting, testing, acted, tested, leading, branching, forking, done, line, onto, begun, eitherOp, step, closed, run, follow}
+use Rattle.line.specs.Words.{Text, exactly, labelText, variableText, variableOf, labelOf, operandOf, wordOf}
 use Rattle.line.proofs.Runs.{sourced-other}
 use Rattle.line.proofs.Tokens.{label-back, operand-back, operand-word, variable-back, variable-word, op-back}
 
@@ -82,7 +82,7 @@ action-walk l (Set v o) n p =
     (to (held l v o) (leading l (Set v o)) (codes "->") (labelText n ∷ []) _ refl (after-action l (Set v o) n))
 action-walk l (Compute v a c b) n p =
     held-walk l v a (spellOperator c ∷ spellOperand b ∷ codes "->" ∷ labelText n ∷ []) _ (p .0)
-    (to (held l v a) (joining l v a c) (spellOperator c) (spellOperand b ∷ codes "->" ∷ labelText n ∷ []) _ (ap (λ y. eitherOp y (joining l v a) (onto (arrowOf (spellOperator c)) (λ u. leading l (Set v a)))) (op-back c))
+    (to (held l v a) (joining l v a c) (spellOperator c) (spellOperand b ∷ codes "->" ∷ labelText n ∷ []) _ (ap (λ y. eitherOp y (joining l v a) (onto (exactly (codes "->") (spellOperator c)) (λ u. leading l (Set v a)))) (op-back c))
     (to (joining l v a c) (acted l (Compute v a c b)) (spellOperand b) (codes "->" ∷ labelText n ∷ []) _ (operand-step (λ y. acted l (Compute v a c y)) b (p .1)) (arrow-action l (Compute v a c b) n)))
 action-walk l (Get v) n p =
     source-walk l v (codes "get" ∷ codes "->" ∷ labelText n ∷ []) _

@@ -2,6 +2,7 @@
 use mathlib.Core.Path.{_≡_}
 use mathlib.Core.List.{List, [], _∷_}
 use Prim.Native.Nat.{ℕ, _+_}
+use lib.Chars.{codes}
 use lib.IntN.{ℤ}
 use lib.ListN.{length}
 use Rattle.std.specs.declared.option.Option.{Option}
@@ -22,9 +23,9 @@ use Rattle.line.specs.declared.syntax.Statement.{Statement}
 use Rattle.line.specs.declared.syntax.Statement.the-variants as says
 use Rattle.line.specs.declared.variable.Variable.{Variable}
 use Rattle.line.specs.declared.word.Word.{Word}
-use Rattle.line.specs.declared.word.Word.the-variants.{Pass, Halt, If, Get, Put, Equals, Arrow, Other}
+use Rattle.line.specs.declared.word.Word.the-variants.{Pass, Halt, If, Get, Put, Other}
 use Rattle.line.specs.Pieces.{Piece, pieces}
-use Rattle.line.specs.Words.{Text, wordOf, operatorOf, labelOf, variableOf, operandOf}
+use Rattle.line.specs.Words.{Text, exactly, wordOf, operatorOf, labelOf, variableOf, operandOf}
 
 -- one past the last byte that a cursor has before it
 abbrev pub endOf : Cursor → ℕ
@@ -75,8 +76,6 @@ begun l Halt v = Some (done (line l says.Halt))
 begun l If v = Some (testing l)
 begun l Put v = Some (putting l)
 begun l Get v = None
-begun l Equals v = None
-begun l Arrow v = None
 begun l Other v = onto v (setting l)
 
 -- the token after `v =`
@@ -86,35 +85,7 @@ sourced l v Pass o = onto o (held l v)
 sourced l v Halt o = onto o (held l v)
 sourced l v If o = onto o (held l v)
 sourced l v Put o = onto o (held l v)
-sourced l v Equals o = onto o (held l v)
-sourced l v Arrow o = onto o (held l v)
 sourced l v Other o = onto o (held l v)
-
-abbrev pub equals : Word → Option (Unit {0})
-equals Equals = Some tt
-equals Pass = None
-equals Halt = None
-equals If = None
-equals Get = None
-equals Put = None
-equals Arrow = None
-equals Other = None
-
-abbrev pub arrow : Word → Option (Unit {0})
-arrow Arrow = Some tt
-arrow Pass = None
-arrow Halt = None
-arrow If = None
-arrow Get = None
-arrow Put = None
-arrow Equals = None
-arrow Other = None
-
-abbrev pub equalsOf : Text → Option (Unit {0})
-equalsOf t = equals (wordOf t)
-
-abbrev pub arrowOf : Text → Option (Unit {0})
-arrowOf t = arrow (wordOf t)
 
 abbrev pub eitherOp : Option Operator → (Operator → State) → Option State → Option State
 eitherOp (Some p) f s = Some (f p)
@@ -124,14 +95,14 @@ eitherOp None f s = s
 abbrev pub step : State → Text → Option State
 step start t = onto (labelOf t) named
 step (named l) t = begun l (wordOf t) (variableOf t)
-step (setting l v) t = onto (equalsOf t) (λ u. sourcing l v)
+step (setting l v) t = onto (exactly (codes "=") t) (λ u. sourcing l v)
 step (sourcing l v) t = sourced l v (wordOf t) (operandOf t)
-step (held l v o) t = eitherOp (operatorOf t) (joining l v o) (onto (arrowOf t) (λ u. leading l (act.Set v o)))
+step (held l v o) t = eitherOp (operatorOf t) (joining l v o) (onto (exactly (codes "->") t) (λ u. leading l (act.Set v o)))
 step (joining l v o p) t = onto (operandOf t) (λ b. acted l (act.Compute v o p b))
 step (putting l) t = onto (operandOf t) (λ o. acted l (act.Put o))
 step (testing l) t = onto (operandOf t) (λ o. tested l o)
-step (acted l a) t = onto (arrowOf t) (λ u. leading l a)
-step (tested l o) t = onto (arrowOf t) (λ u. branching l o)
+step (acted l a) t = onto (exactly (codes "->") t) (λ u. leading l a)
+step (tested l o) t = onto (exactly (codes "->") t) (λ u. branching l o)
 step (leading l a) t = onto (labelOf t) (λ n. done (line l (says.Then a n)))
 step (branching l o) t = onto (labelOf t) (λ a. forking l o a)
 step (forking l o a) t = onto (labelOf t) (λ b. done (line l (says.If o a b)))

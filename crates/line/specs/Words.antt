@@ -19,21 +19,24 @@ use Rattle.line.specs.declared.syntax.Operator.the-variants.{Add, Sub, Mul, Di
 use Rattle.line.specs.declared.syntax.Operand.{Operand}
 use Rattle.line.specs.declared.syntax.Operand.the-variants.{Var, Num}
 use Rattle.line.specs.declared.word.Word.{Word}
-use Rattle.line.specs.declared.word.Word.the-variants.{Pass, Halt, If, Get, Put, Equals, Arrow, Other}
+use Rattle.line.specs.declared.word.Word.the-variants.{Pass, Halt, If, Get, Put, Other}
 use Rattle.line.specs.Names.{isWord, padded, kept}
 
 abbrev pub Text : Type 0
 Text = List ℕ
 
+-- the token is spelt just so
+abbrev pub exactly : Text → Text → Option (Unit {0})
+exactly w t = cond (sameBytes t w) (Some tt) None
+
+-- the keyword that the token is
 abbrev pub wordOf : Text → Word
 wordOf t =
     cond (sameBytes t (codes "pass")) Pass
     (cond (sameBytes t (codes "halt")) Halt
     (cond (sameBytes t (codes "if")) If
     (cond (sameBytes t (codes "get")) Get
-    (cond (sameBytes t (codes "put")) Put
-    (cond (sameBytes t (codes "=")) Equals
-    (cond (sameBytes t (codes "->")) Arrow Other))))))
+    (cond (sameBytes t (codes "put")) Put Other))))
 
 -- the operator that one character spells: + - * / % < &
 abbrev pub signOf : ℕ → Option Operator

@@ -5,8 +5,8 @@ ghost use mathlib.Core.Path.{_≡_};
 ghost use Prim.Native.Nat.{_^_, _<_};
 ghost use lib.ListN.{length};
 ghost use Rattle.line.specs.Pieces.{ahead};
-ghost use Rattle.line.specs.Words.{labelOf, operandOf};
-ghost use Rattle.line.specs.States.{Gave, Took, Stated, Assigned, Joined, Pointed, equalsOf, arrowOf, endOf, parsed};
+ghost use Rattle.line.specs.Words.{exactly, labelOf, operandOf};
+ghost use Rattle.line.specs.States.{Gave, Took, Stated, Assigned, Joined, Pointed, endOf, parsed};
 use crate::cursor::Cursor;
 use crate::cursor::Token;
 use crate::label::Label;
@@ -16,6 +16,7 @@ use crate::syntax::Operand;
 use crate::syntax::Statement;
 use crate::variable::Variable;
 use crate::word::Word;
+use crate::word::is_exactly;
 use crate::word::operand_of;
 use crate::word::operator_of;
 use crate::word::word_of;
@@ -56,27 +57,17 @@ fn take_operand(cursor: &mut Cursor<'_>) -> Result<Operand<i64>, usize>
     operand_of(token.text).ok_or(token.column)
 }
 
-fn take_equals(cursor: &mut Cursor<'_>) -> Result<(), usize>
+// A token that is spelt just so.
+fn take_exactly(cursor: &mut Cursor<'_>, spelling: &str) -> Result<(), usize>
     requires { ⌜ endOf (now cursor) < 2 ^ 64 ⌝ }
-    ensures took { λ r. ⌜ Took equalsOf (endOf (now (cursor .entry))) (ahead (now (cursor .entry))) r (ahead (now (cursor .exit))) ⌝ }
+    ensures took { λ r. ⌜ Took (exactly (now (spelling .entry))) (endOf (now (cursor .entry))) (ahead (now (cursor .entry))) r (ahead (now (cursor .exit))) ⌝ }
     ensures end { λ r. ⌜ endOf (now (cursor .exit)) ≡ endOf (now (cursor .entry)) ⌝ }
 {
     let token = take_token(cursor)?;
-    match word_of(token.text) {
-        Word::Equals => Ok(()),
-        _ => Err(token.column),
-    }
-}
-
-fn take_arrow(cursor: &mut Cursor<'_>) -> Result<(), usize>
-    requires { ⌜ endOf (now cursor) < 2 ^ 64 ⌝ }
-    ensures took { λ r. ⌜ Took arrowOf (endOf (now (cursor .entry))) (ahead (now (cursor .entry))) r (ahead (now (cursor .exit))) ⌝ }
-    ensures end { λ r. ⌜ endOf (now (cursor .exit)) ≡ endOf (now (cursor .entry)) ⌝ }
-{
-    let token = take_token(cursor)?;
-    match word_of(token.text) {
-        Word::Arrow => Ok(()),
-        _ => Err(token.column),
+    if is_exactly(token.text, spelling) {
+        Ok(())
+    } else {
+        Err(token.column)
     }
 }
 
@@ -108,7 +99,7 @@ fn take_assignment(cursor: &mut Cursor<'_>, v: Variable) -> Result<Action<i64>, 
     ensures leads { λ r. ⌜ Assigned (endOf (now (cursor .entry))) v (ahead (now (cursor .entry))) r (ahead (now (cursor .exit))) ⌝ }
     ensures end { λ r. ⌜ endOf (now (cursor .exit)) ≡ endOf (now (cursor .entry)) ⌝ }
 {
-    take_equals(cursor)?;
+    take_exactly(cursor, "=")?;
     let token = take_token(cursor)?;
     if let Word::Get = word_of(token.text) {
         return Ok(Action::Get(v));
@@ -143,7 +134,7 @@ fn take_statement(cursor: &mut Cursor<'_>) -> Result<Head, usize>
             let action = take_assignment(cursor, v)?;
             Ok(Head::Act(action))
         }
-        Word::Get | Word::Equals | Word::Arrow => Err(token.column),
+        Word::Get => Err(token.column),
     }
 }
 
@@ -155,12 +146,12 @@ fn take_successors(cursor: &mut Cursor<'_>, head: Head) -> Result<Statement<i64>
     match head {
         Head::Halt => Ok(Statement::Halt),
         Head::Act(action) => {
-            take_arrow(cursor)?;
+            take_exactly(cursor, "->")?;
             let next = take_label(cursor)?;
             Ok(Statement::Then(action, next))
         }
         Head::Test(tested) => {
-            take_arrow(cursor)?;
+            take_exactly(cursor, "->")?;
             let first = take_label(cursor)?;
             let second = take_label(cursor)?;
             Ok(Statement::If(tested, first, second))

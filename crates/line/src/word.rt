@@ -1,5 +1,6 @@
 // What one token is, taken alone.
 ghost use mathlib.Core.Path.{_≡_};
+ghost use Rattle.std.specs.shelf.Text.{sameBytes};
 ghost use Rattle.line.specs.Words.{wordOf, signOf, doubleOf, operatorOf, operandOf};
 use crate::syntax::Operand;
 use crate::syntax::Operator;
@@ -7,6 +8,7 @@ use crate::variable::Variable;
 use numeral::wide_value;
 use std::str::from_utf8;
 
+// A keyword, or none.
 #[derive(Clone, Copy)]
 pub(crate) enum Word {
     Pass,
@@ -14,9 +16,13 @@ pub(crate) enum Word {
     If,
     Get,
     Put,
-    Equals,
-    Arrow,
     Other,
+}
+
+pub(crate) fn is_exactly(token: &[u8], spelling: &str) -> bool
+    ensures { λ r. ⌜ r ≡ sameBytes (now (token .entry)) (now (spelling .entry)) ⌝ }
+{
+    token == spelling.as_bytes()
 }
 
 pub(crate) fn word_of(token: &[u8]) -> Word
@@ -31,8 +37,6 @@ pub(crate) fn word_of(token: &[u8]) -> Word
         "if" => Word::If,
         "get" => Word::Get,
         "put" => Word::Put,
-        "=" => Word::Equals,
-        "->" => Word::Arrow,
         _ => Word::Other,
     }
 }
