@@ -1,4 +1,6 @@
 // The console: a draft typed in, mended and listed by commands, one a line.
+#![tactic(auto)]
+
 mod answer;
 mod command;
 mod session;

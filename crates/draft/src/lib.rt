@@ -1,4 +1,6 @@
 // A draft: the lines of a program that is being written, numbered from 1.
+#![tactic(auto)]
+
 mod draft;
 mod edit;
 

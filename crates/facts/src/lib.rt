@@ -1,4 +1,6 @@
 // Facts that data-flow problems compute with: what a kind of fact is, sets, and depths.
+#![tactic(auto)]
+
 mod depth;
 mod fact;
 mod set;

@@ -1,4 +1,6 @@
 // Refusals: what is wrong, of which layer, under which number, and where.
+#![tactic(auto)]
+
 ghost use Rattle.std.specs.Prelude.{◌≡◌, Some};
 ghost use Rattle.fault.specs.Shown.{layer_text, fault_text};
 ghost use Rattle.fault.specs.Table.{layer_of, number_of, placed, plain_fault};

@@ -1,4 +1,6 @@
 // Data-flow problems on graphs, and the solver that finds the greatest solution of any of them.
+#![tactic(auto)]
+
 mod distance;
 mod gen_kill;
 mod problem;

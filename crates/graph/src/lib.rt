@@ -1,4 +1,6 @@
 // Flow graphs: what one is, one made from its edges, and one read against its edges.
+#![tactic(auto)]
+
 mod adjacency;
 mod edge;
 mod edge_graph;

@@ -1,4 +1,6 @@
 // One line of a door program: its types, its reader and its printer.
+#![tactic(auto)]
+
 mod class;
 mod cursor;
 mod label;

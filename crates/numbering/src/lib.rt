@@ -1,4 +1,6 @@
 // Kinds of elements that have sameness, and a list that numbers different elements.
+#![tactic(auto)]
+
 mod list;
 mod sameness;
 

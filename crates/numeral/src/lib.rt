@@ -1,4 +1,6 @@
 // Numbers as text: `0`, or an optional `-`, a digit 1 to 9 and at most nine more digits.
+#![tactic(auto)]
+
 ghost use Rattle.std.specs.Prelude.{◌≡◌, true, false, Some, None};
 ghost use Rattle.std.specs.Str.{all_ascii_digits};
 ghost use Rattle.numeral.specs.Numbers.{leads, shaped, int_of, wide_of, narrow_of, numeral_spelt, Spelt};

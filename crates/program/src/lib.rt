@@ -1,4 +1,6 @@
 // Programs: drafts that were found to be programs, sealed.
+#![tactic(auto)]
+
 mod expression;
 mod sealed;
 mod sealing;

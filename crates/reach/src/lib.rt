@@ -1,4 +1,6 @@
 // Which nodes of a graph the entry reaches, and which reach the exit, told by depths.
+#![tactic(auto)]
+
 ghost use Rattle.std.specs.Prelude.{ℕ, ◌≤◌, T, length, slice_index_or};
 ghost use Rattle.facts.specs.declared.depth.Depth.TheVariants.{Missing};
 ghost use Rattle.facts.specs.Depths.{missing_depth};
