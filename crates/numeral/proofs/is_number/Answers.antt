@@ -3,4 +3,4 @@ use Rattle.numeral.proofs.Numerals.{spelt_none}
 use Rattle.numeral.proofs.is_number.Goals as goal
 
 pub returns : goal.returns
-returns c = record { value = c.has-shape.ensures; none = λ e. spelt_none c.args.text.now (sym c.has-shape.ensures ∙ e) }
+returns c = record { value = c.has_shape.ensures; none = λ e. spelt_none c.args.text.now (sym c.has_shape.ensures ∙ e) }

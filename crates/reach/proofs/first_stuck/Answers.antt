@@ -10,4 +10,4 @@ returns g c =
     let s = g.G.Graph.shape x in
     let edges = g.met.G.Graph.edges x in
     lowest_map (Reaches (turned s) s.exit) (λ n. Reaches s n s.exit) s.count
-    (λ n _. round_reaches s edges n s.exit) (λ n _. reaches_round s edges n s.exit) c.first-unreached.result c.first-unreached.ensures
+    (λ n _. round_reaches s edges n s.exit) (λ n _. reaches_round s edges n s.exit) c.first_unreached.result c.first_unreached.ensures

@@ -13,7 +13,7 @@ returns g c =
     let x = c.args.g.now in
     let s = g.G.Graph.shape x in
     let f : ℕ → Depth = λ n. get_or c.solve-depths.result n Missing in
-    let r = c.first-missing.result in
+    let r = c.first_missing.result in
     let told = depth_tells s (g.met.G.Graph.edges x) (g.met.G.Graph.sized x).preds_in f c.solve-depths.ensures in
     lowest_map (λ n. ¬ T (missing_depth (f n))) (Reaches s s.entry) s.count (λ n i. (told n i).0) (λ n i. (told n i).1) r
-    (subst (λ (k : ℕ). Lowest (λ n. ¬ T (missing_depth (f n))) k r) c.count.ensures c.first-missing.ensures)
+    (subst (λ (k : ℕ). Lowest (λ n. ¬ T (missing_depth (f n))) k r) c.count.ensures c.first_missing.ensures)

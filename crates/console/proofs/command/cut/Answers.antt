@@ -21,6 +21,6 @@ pub returns : goal.returns
 returns c =
     let s = c.args.line.now in
     record {
-      word = c.split-at.ensures.front ∙ take_all _ s (le_refl _) ∙ sym (word_whole s _ c.loop-i-test.false c.loop-i.invariant);
-      rest = c.split-at.ensures.back ∙ drop_all _ s (le_refl _) ∙ sym (after_whole s _ c.loop-i-test.false c.loop-i.invariant);
+      word = c.split_at.ensures.front ∙ take_all _ s (le_refl _) ∙ sym (word_whole s _ c.loop-i-test.false c.loop-i.invariant);
+      rest = c.split_at.ensures.back ∙ drop_all _ s (le_refl _) ∙ sym (after_whole s _ c.loop-i-test.false c.loop-i.invariant);
     }

@@ -14,14 +14,14 @@ loop-m-init g c = (omega arith, simp c.top-all.ensures ((laws g).neutral _))
 found : (g : given.Over) (x : g.row.G.Denot) (n k m : ℕ) → Some m ≡ slice_get ((g.G.Graph.shape x).preds n) k → (m < 288) × (k < length ((g.G.Graph.shape x).preds n))
 found g x n k m = let z = g.met.G.Graph.sized x in neighbour _ _ k m z.most (z.preds_in n)
 
-pub offset-bounds-facts-m : goal.offset-bounds-facts-m
-offset-bounds-facts-m g c = let b = (found g _ _ _ _ c.in-Some.ensures).0 in omega (arith, c.requires)
+pub offset_bounds-facts-m : goal.offset_bounds-facts-m
+offset_bounds-facts-m g c = let b = (found g _ _ _ _ c.in-Some.ensures).0 in omega (arith, c.requires)
 
 pub bounds-facts-m : goal.bounds-facts-m
 bounds-facts-m g c = let b = (found g _ _ _ _ c.in-Some.ensures).0 in omega (arith, c.requires)
 
-pub overflow-add-k : goal.overflow-add-k
-overflow-add-k g c =
+pub overflow_add-k : goal.overflow_add-k
+overflow_add-k g c =
     let b = (found g _ _ _ _ c.in-Some.ensures).1 in
     let z = (g.met.G.Graph.sized c.args.g.now).preds_short c.args.n in
     omega arith
@@ -49,4 +49,4 @@ returns g c =
     let top = g.row.P-Fact-Fact.top in
     let step = g.P.Problem.step c.args.p.now in
     let ps = (g.G.Graph.shape c.args.g.now).preds c.args.n in
-    sym (inflow_end (laws g) step (λ m. get_or c.args.facts.now m top) ps c.loop-m.k c.loop-m.all (sym c.in-default.ensures)) ∙ c.loop-m.invariant.1
+    sym (inflow_end (laws g) step (λ m. get_or c.args.facts.now m top) ps c.loop-m.k c.loop-m.all (sym c.in_default.ensures)) ∙ c.loop-m.invariant.1

@@ -8,4 +8,4 @@ told same reflexive exact true m a x e h = sym e ∙ exact m a (subst T h tt)
 told same reflexive exact false m a x e h = λ q. subst T (sym h) (subst (λ y. T (same m y)) (e ∙ q) (reflexive m))
 
 pub returns : goal.returns
-returns g c = told g.F.Sameness.same g.met.F.Sameness.reflexive c.meet-met.ensures.exact c.is-same.result c.meet-met.result c.args.a _ c.meet-met.ensures.value c.is-same.ensures
+returns g c = told g.F.Sameness.same g.met.F.Sameness.reflexive c.meet-met.ensures.exact c.is_same.result c.meet-met.result c.args.a _ c.meet-met.ensures.value c.is_same.ensures

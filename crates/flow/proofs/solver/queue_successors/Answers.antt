@@ -13,8 +13,8 @@ found g x n k m = let z = g.met.G.Graph.sized x in neighbour _ _ k m z.most (z.s
 pub push-requires : goal.push-requires
 push-requires g c = (found g _ _ _ _ c.in-Some.ensures).0
 
-pub overflow-add-k : goal.overflow-add-k
-overflow-add-k g c =
+pub overflow_add-k : goal.overflow_add-k
+overflow_add-k g c =
     let b = (found g _ _ _ _ c.in-Some.ensures).1 in
     let z = (g.met.G.Graph.sized c.args.g.now).succs_short c.args.n in
     omega arith
@@ -34,4 +34,4 @@ loop-m-preserved g c =
 pub returns : goal.returns
 returns g c =
     let ns = (g.G.Graph.shape c.args.g.now).succs c.args.n in
-    sym (all_end ns (waiting c.loop-m.queue) c.loop-m.k (sym c.in-default.ensures)) ∙ c.loop-m.invariant.1
+    sym (all_end ns (waiting c.loop-m.queue) c.loop-m.k (sym c.in_default.ensures)) ∙ c.loop-m.invariant.1

@@ -13,28 +13,28 @@ use Rattle.flow.proofs.solver.solve.Goals as goal
 laws : (g : given.Over) → Laws g.row.P-Fact-Fact.top g.row.P-Fact-Fact.meet
 laws g = let m = g.met.P.Fact.Fact in laws_of m.associative m.commutative m.idempotent m.neutral
 
-pub overflow-mul-falls-left : goal.overflow-mul-falls-left
-overflow-mul-falls-left g c =
+pub overflow_mul-falls_left : goal.overflow_mul-falls_left
+overflow_mul-falls_left g c =
     let most = (g.met.G.Graph.sized c.args.g.now).most in
     let few : c.count-count.result ≤ 288 = omega (arith, c.count-count.ensures) in
-    let p = mul-le c.count-count.result c.falls-at-most.result 288 4294967296 few (le_of_lt c.falls-at-most.type-inv) in
+    let p = mul-le c.count-count.result c.falls_at_most.result 288 4294967296 few (le_of_lt c.falls_at_most.type_inv) in
     omega arith
 
 pub loop-n-init : goal.loop-n-init
 loop-n-init g c =
     let x = c.args.g.now in
     let s = g.G.Graph.shape x in
-    let ws = waiting c.queue-all.new.queue in
-    let inside : AllBelow s.count ws = subst (λ (k : ℕ). AllBelow k ws) c.count-count.ensures (c.queue-all.ensures.inside (subst (AllBelow c.count-count.result) (sym c.new-queue.ensures) tt)) in
-    let each : (n : ℕ) → n < s.count → 0 < times n ws = λ n l. c.queue-all.ensures.each n (omega (arith, c.count-count.ensures)) in (
-      length-set (replicate 288 c.top-facts.result) c.entry-first.result c.at-entry.result ∙ length-replicate 288 c.top-facts.result,
+    let ws = waiting c.queue_all.new.queue in
+    let inside : AllBelow s.count ws = subst (λ (k : ℕ). AllBelow k ws) c.count-count.ensures (c.queue_all.ensures.inside (subst (AllBelow c.count-count.result) (sym c.new-queue.ensures) tt)) in
+    let each : (n : ℕ) → n < s.count → 0 < times n ws = λ n l. c.queue_all.ensures.each n (omega (arith, c.count-count.ensures)) in (
+      length-set (replicate 288 c.top-facts.result) c.entry-first.result c.at_entry.result ∙ length-replicate 288 c.top-facts.result,
       start_table (laws g) (g.met.G.Graph.sized x) (g.met.G.Graph.edges x) (g.met.P.Problem.monotone c.args.p.now)
-          c.top-facts.result c.at-entry.result c.entry-first.result ws c.top-facts.ensures c.at-entry.ensures c.entry-first.ensures inside each,
-      paid_begin g.row.P-Fact-Fact.meet g.P.Problem.height s.count _ _ (ap₂ ◌*◌ c.count-count.ensures c.falls-at-most.ensures),
+          c.top-facts.result c.at_entry.result c.entry-first.result ws c.top-facts.ensures c.at_entry.ensures c.entry-first.ensures inside each,
+      paid_begin g.row.P-Fact-Fact.meet g.P.Problem.height s.count _ _ (ap₂ ◌*◌ c.count-count.ensures c.falls_at_most.ensures),
     )
 
 -- a visit at which the fact of a node fell
-module _ (g : given.Over) (c : goal.After-queue-successors g) where
+module _ (g : given.Over) (c : goal.After-queue_successors g) where
   abbrev here : Visit (g.G.Graph.shape c.args.g.now) g.row.P-Fact-Fact.top g.row.P-Fact-Fact.meet (g.P.Problem.given c.args.p.now) (g.P.Problem.step c.args.p.now)
   here = record {
     facts = c.loop-n.facts;
@@ -55,19 +55,19 @@ module _ (g : given.Over) (c : goal.After-queue-successors g) where
   abbrev edges : SameEdges (g.G.Graph.shape c.args.g.now)
   edges = g.met.G.Graph.edges c.args.g.now
 
-  fallen : (1 ≤ c.loop-n.falls-left) × Paid g.row.P-Fact-Fact.meet g.P.Problem.height (g.G.Graph.shape c.args.g.now).count
-      (λ m. get_or (set c.loop-n.facts c.in-Some.n c.in-Some-revised.new) m g.row.P-Fact-Fact.top) (c.loop-n.falls-left - 1)
+  fallen : (1 ≤ c.loop-n.falls_left) × Paid g.row.P-Fact-Fact.meet g.P.Problem.height (g.G.Graph.shape c.args.g.now).count
+      (λ m. get_or (set c.loop-n.facts c.in-Some.n c.in-Some-revised.new) m g.row.P-Fact-Fact.top) (c.loop-n.falls_left - 1)
   fallen = turn_falls_table (laws g) sized edges (g.met.P.Problem.monotone c.args.p.now) here g.met.P.Problem.falls c.in-Some-revised.ensures.1 c.loop-n.invariant.2
 
-pub overflow-sub-falls-left : goal.overflow-sub-falls-left
-overflow-sub-falls-left g c = (fallen g c).0
+pub overflow_sub-falls_left : goal.overflow_sub-falls_left
+overflow_sub-falls_left g c = (fallen g c).0
 
 pub loop-n-smaller-in-Some-revised : goal.loop-n-smaller-in-Some-revised
-loop-n-smaller-in-Some-revised g c = turn_less _ _ _ _ _ c.in-Some.ensures (fallen g c).0 (sound_short c.queue-successors.new.queue)
+loop-n-smaller-in-Some-revised g c = turn_less _ _ _ _ _ c.in-Some.ensures (fallen g c).0 (sound_short c.queue_successors.new.queue)
 
 pub loop-n-preserved-in-Some-revised : goal.loop-n-preserved-in-Some-revised
 loop-n-preserved-in-Some-revised g c = (
   length-set c.loop-n.facts c.in-Some.n c.in-Some-revised.new ∙ c.loop-n.invariant.0,
-  turn_table (laws g) (sized g c) (edges g c) (g.met.P.Problem.monotone c.args.p.now) (here g c) (waiting c.queue-successors.new.queue) c.queue-successors.ensures,
+  turn_table (laws g) (sized g c) (edges g c) (g.met.P.Problem.monotone c.args.p.now) (here g c) (waiting c.queue_successors.new.queue) c.queue_successors.ensures,
   (fallen g c).1,
 )

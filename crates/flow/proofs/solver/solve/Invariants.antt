@@ -11,8 +11,8 @@ invariant-loop-n g l =
     let s = g.G.Graph.shape l.g in
     (length l.facts ≡ 288)
     × Going s top meet (g.P.Problem.given l.p) (g.P.Problem.step l.p) (λ n. get_or l.facts n top) (waiting l.queue)
-    × Paid meet g.P.Problem.height s.count (λ n. get_or l.facts n top) l.falls-left
+    × Paid meet g.P.Problem.height s.count (λ n. get_or l.facts n top) l.falls_left
 
 -- falls that are left, and then nodes that wait
 abbrev pub decreases-loop-n : goal.decreases-loop-n
-decreases-loop-n g l = l.falls-left * 289 + length (waiting l.queue)
+decreases-loop-n g l = l.falls_left * 289 + length (waiting l.queue)

@@ -7,13 +7,13 @@ use Rattle.graph.proofs.adjacency.put_heads.Goals.{then-edge-n, else-edge-n}
 
 pub bounds-ends-at : goal.bounds-ends-at
 bounds-ends-at c =
-    let e = ap length (heads_here c.args.edges.now c.loop-edge.edge_index _ c.loop-edge-test.true c.args.n c.if-edge-n.true) in
+    let e = ap length (heads_here c.args.edges.now c.loop-edge.edge-index _ c.loop-edge-test.true c.args.n c.if-edge-n.true) in
     omega arith
 
 pub loop-edge-preserved : goal.loop-edge-preserved
 loop-edge-preserved c =
     let es = c.args.edges.now in
-    let i = c.loop-edge.edge_index in
+    let i = c.loop-edge.edge-index in
     let n = c.args.n in
     let h = c.loop-edge-test.true in
     let xs = c.loop-edge.ends in
@@ -42,7 +42,7 @@ loop-edge-preserved c =
 pub returns : goal.returns
 returns c =
     let es = c.args.edges.now in
-    let e = at_drop_all (heads_from c.args.n) es c.loop-edge.edge_index c.loop-edge-test.false in
+    let e = at_drop_all (heads_from c.args.n) es c.loop-edge.edge-index c.loop-edge-test.false in
     let s = ap length e in
     let front = take c.loop-edge.at c.loop-edge.ends in
     record {

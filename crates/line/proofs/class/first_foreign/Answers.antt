@@ -25,7 +25,7 @@ pub returns-in-Foreign : goal.returns-in-Foreign
 returns-in-Foreign c = sym (c.loop-i.invariant ∙ here _ _ c.loop-i-test.true c.in-Foreign.ensures)
 
 pub loop-i-preserved : goal.loop-i-preserved
-loop-i-preserved c = c.loop-i.invariant ∙ past _ _ c.loop-i-test.true (λ e. c.in-default.not-Foreign (c.class-of.ensures ∙ e))
+loop-i-preserved c = c.loop-i.invariant ∙ past _ _ c.loop-i-test.true (λ e. c.in_default.not-Foreign (c.class_of.ensures ∙ e))
 
 pub returns : goal.returns
 returns c = sym (c.loop-i.invariant ∙ ap (foreign_at (c.loop-i.i + 1)) (drop_all _ c.args.text.now c.loop-i-test.false))

@@ -7,6 +7,6 @@ use Rattle.line.proofs.parse.take_operand.Goals as goal
 pub returns : goal.returns
 returns c =
     record {
-      took = took operand_spelt _ _ c.in-ok-token.token _ _ c.in-ok-token.ensures.token (c.ok-or.ensures.value ∙ ap (λ o. ok_or o c.in-ok-token.token.column) c.operand-of.ensures);
+      took = took operand_spelt _ _ c.in_ok-token.token _ _ c.in_ok-token.ensures.token (c.ok_or.ensures.value ∙ ap (λ o. ok_or o c.in_ok-token.token.column) c.operand_of.ensures);
       end = search rules;
     }

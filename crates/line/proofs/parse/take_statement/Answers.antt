@@ -6,24 +6,24 @@ use Rattle.line.specs.States.{named, begun, testing, putting, tested, acted}
 use Rattle.line.proofs.Runs.{worded, gave_none}
 use Rattle.line.proofs.parse.take_statement.Goals as goal
 
-pub returns-in-ok-tested : goal.returns-in-ok-tested
-returns-in-ok-tested c =
+pub returns-in_ok-tested : goal.returns-in_ok-tested
+returns-in_ok-tested c =
     record {
-      leads = λ l. worded _ _ _ _ _ c.in-ok-token.token _ _ l (testing l) (λ o. tested l o) c.in-ok-token.ensures.token c.in-If.ensures refl (λ x. refl) c.in-ok-token.ensures.end c.in-ok-tested.ensures.took;
+      leads = λ l. worded _ _ _ _ _ c.in_ok-token.token _ _ l (testing l) (λ o. tested l o) c.in_ok-token.ensures.token c.in-If.ensures refl (λ x. refl) c.in_ok-token.ensures.end c.in_ok-tested.ensures.took;
       end = search rules;
     }
 
-pub returns-in-ok-told : goal.returns-in-ok-told
-returns-in-ok-told c =
+pub returns-in_ok-told : goal.returns-in_ok-told
+returns-in_ok-told c =
     record {
-      leads = λ l. worded _ _ _ _ _ c.in-ok-token.token _ _ l (putting l) (λ o. acted l (act.Put o)) c.in-ok-token.ensures.token c.in-Put.ensures refl (λ x. refl) c.in-ok-token.ensures.end c.in-ok-told.ensures.took;
+      leads = λ l. worded _ _ _ _ _ c.in_ok-token.token _ _ l (putting l) (λ o. acted l (act.Put o)) c.in_ok-token.ensures.token c.in-Put.ensures refl (λ x. refl) c.in_ok-token.ensures.end c.in_ok-told.ensures.took;
       end = search rules;
     }
 
-pub returns-in-default : goal.returns-in-default
-returns-in-default c =
-    let t = c.in-ok-token.token.text.now in
+pub returns-in_default : goal.returns-in_default
+returns-in_default c =
+    let t = c.in_ok-token.token.text.now in
     record {
-      leads = λ l. gave_none _ _ _ c.in-ok-token.token (named l) c.in-ok-token.ensures.token (ap (λ w. begun l w (variable_of t)) (sym c.in-Other.ensures) ∙ ap (λ v. begun l Other v) (sym c.in-default.ensures));
+      leads = λ l. gave_none _ _ _ c.in_ok-token.token (named l) c.in_ok-token.ensures.token (ap (λ w. begun l w (variable_of t)) (sym c.in-Other.ensures) ∙ ap (λ v. begun l Other v) (sym c.in_default.ensures));
       end = search rules;
     }

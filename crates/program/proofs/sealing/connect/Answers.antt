@@ -10,7 +10,7 @@ use Rattle.program.specs.Refusals.{LowestLine}
 use Rattle.program.specs.Written.{Lines, exit_line}
 use Rattle.program.proofs.Judging.{line_found, refuse, go_on, lowest_line, lowest_entering}
 use Rattle.program.proofs.sealing.connect.Goals as goal
-use Rattle.program.proofs.sealing.connect.Goals.{In-default, In-default-first-unreached, After-new-turned}
+use Rattle.program.proofs.sealing.connect.Goals.{In-default, In-default-first_unreached, After-new-turned}
 
 -- what the two searches in the graph say of the lines
 
@@ -25,65 +25,65 @@ stuck ls s r e h =
 -- after each check
 
 not_entered : (c : goal.In-default) → Clean asks c.args.lines.now 12
-not_entered c = go_on c.args.lines.now Enters c.in-ok-exit.ensures.1 (λ t. t) (lowest_entering c.args.lines.now c.requires.clean None c.in-default.ensures)
+not_entered c = go_on c.args.lines.now Enters c.in_ok-exit.ensures.1 (λ t. t) (lowest_entering c.args.lines.now c.requires.clean None c.in_default.ensures)
 
-all_reached : (c : goal.In-default-first-unreached) → Clean asks c.args.lines.now 12 → Clean asks c.args.lines.now 13
-all_reached c h = go_on c.args.lines.now Unreached h (λ t. t) (unreached c.args.lines.now (shape_in c.graph-of-graph.result) None c.graph-of-graph.ensures c.in-default-first-unreached.ensures)
+all_reached : (c : goal.In-default-first_unreached) → Clean asks c.args.lines.now 12 → Clean asks c.args.lines.now 13
+all_reached c h = go_on c.args.lines.now Unreached h (λ t. t) (unreached c.args.lines.now (shape_in c.graph_of-graph.result) None c.graph_of-graph.ensures c.in_default-first_unreached.ensures)
 
 -- the graph that is turned round
 turned_shape : (c : goal.After-new-turned) → shape_in c.new-turned.result.of ≡ graph_of asks c.args.lines.now
-turned_shape c = ap shape_in c.new-turned.ensures ∙ c.graph-of-graph.ensures
+turned_shape c = ap shape_in c.new-turned.ensures ∙ c.graph_of-graph.ensures
 
-pub overflow-add-number : goal.overflow-add-number
-overflow-add-number c =
+pub overflow_add-number : goal.overflow_add-number
+overflow_add-number c =
     let ls = c.args.lines.now in
     let k = c.in-Some.number in
-    let i = line_found ls Enters c.in-ok-exit.ensures.1 (λ t. t) k (lowest_entering ls c.requires.clean (Some k) c.in-Some.ensures) in
+    let i = line_found ls Enters c.in_ok-exit.ensures.1 (λ t. t) k (lowest_entering ls c.requires.clean (Some k) c.in-Some.ensures) in
     omega (arith, c.requires.few)
 
 pub returns-in-Some : goal.returns-in-Some
 returns-in-Some c =
     let ls = c.args.lines.now in
     let k = c.in-Some.number in
-    refuse ls Enters c.in-ok-exit.ensures.1 (λ t. t) k (lowest_entering ls c.requires.clean (Some k) c.in-Some.ensures) c.on.result c.on.ensures
+    refuse ls Enters c.in_ok-exit.ensures.1 (λ t. t) k (lowest_entering ls c.requires.clean (Some k) c.in-Some.ensures) c.on.result c.on.ensures
 
-pub graph-of-graph-requires : goal.graph-of-graph-requires
-graph-of-graph-requires c = record { few = c.requires.few; labels = c.requires.labels; halts = c.in-ok-exit.ensures.0; clean = c.in-ok-exit.ensures.1 }
+pub graph_of-graph-requires : goal.graph_of-graph-requires
+graph_of-graph-requires c = record { few = c.requires.few; labels = c.requires.labels; halts = c.in_ok-exit.ensures.0; clean = c.in_ok-exit.ensures.1 }
 
-pub overflow-add-number-in-Some-first-unreached : goal.overflow-add-number-in-Some-first-unreached
-overflow-add-number-in-Some-first-unreached c =
+pub overflow_add-number_in-Some-first_unreached : goal.overflow_add-number_in-Some-first_unreached
+overflow_add-number_in-Some-first_unreached c =
     let ls = c.args.lines.now in
-    let k = c.in-Some-first-unreached.number in
-    let i = line_found ls Unreached (not_entered (goal.at.overflow-add-number-in-Some-first-unreached c).In-default) (λ t. t) k (unreached ls (shape_in c.graph-of-graph.result) (Some k) c.graph-of-graph.ensures c.in-Some-first-unreached.ensures) in
+    let k = c.in-Some-first_unreached.number in
+    let i = line_found ls Unreached (not_entered (goal.at.overflow_add-number_in-Some-first_unreached c).In-default) (λ t. t) k (unreached ls (shape_in c.graph_of-graph.result) (Some k) c.graph_of-graph.ensures c.in-Some-first_unreached.ensures) in
     omega (arith, c.requires.few)
 
-pub returns-in-Some-first-unreached : goal.returns-in-Some-first-unreached
-returns-in-Some-first-unreached c =
+pub returns-in-Some-first_unreached : goal.returns-in-Some-first_unreached
+returns-in-Some-first_unreached c =
     let ls = c.args.lines.now in
-    let k = c.in-Some-first-unreached.number in
-    refuse ls Unreached (not_entered (goal.at.returns-in-Some-first-unreached c).In-default) (λ t. t) k (unreached ls (shape_in c.graph-of-graph.result) (Some k) c.graph-of-graph.ensures c.in-Some-first-unreached.ensures)
-    c.on-in-Some-first-unreached.result c.on-in-Some-first-unreached.ensures
+    let k = c.in-Some-first_unreached.number in
+    refuse ls Unreached (not_entered (goal.at.returns-in-Some-first_unreached c).In-default) (λ t. t) k (unreached ls (shape_in c.graph_of-graph.result) (Some k) c.graph_of-graph.ensures c.in-Some-first_unreached.ensures)
+    c.on-in-Some-first_unreached.result c.on-in-Some-first_unreached.ensures
 
-pub overflow-add-number-in-Some-first-stuck : goal.overflow-add-number-in-Some-first-stuck
-overflow-add-number-in-Some-first-stuck c =
+pub overflow_add-number_in-Some-first_stuck : goal.overflow_add-number_in-Some-first_stuck
+overflow_add-number_in-Some-first_stuck c =
     let ls = c.args.lines.now in
-    let k = c.in-Some-first-stuck.number in
-    let at = goal.at.overflow-add-number-in-Some-first-stuck c in
-    let i = line_found ls Stuck (all_reached at.In-default-first-unreached (not_entered at.In-default)) (λ t. t) k (stuck ls (shape_in c.new-turned.result.of) (Some k) (turned_shape at.After-new-turned) c.in-Some-first-stuck.ensures) in
+    let k = c.in-Some-first_stuck.number in
+    let at = goal.at.overflow_add-number_in-Some-first_stuck c in
+    let i = line_found ls Stuck (all_reached at.In-default-first_unreached (not_entered at.In-default)) (λ t. t) k (stuck ls (shape_in c.new-turned.result.of) (Some k) (turned_shape at.After-new-turned) c.in-Some-first_stuck.ensures) in
     omega (arith, c.requires.few)
 
-pub returns-in-Some-first-stuck : goal.returns-in-Some-first-stuck
-returns-in-Some-first-stuck c =
+pub returns-in-Some-first_stuck : goal.returns-in-Some-first_stuck
+returns-in-Some-first_stuck c =
     let ls = c.args.lines.now in
-    let k = c.in-Some-first-stuck.number in
-    let at = goal.at.returns-in-Some-first-stuck c in
-    refuse ls Stuck (all_reached at.In-default-first-unreached (not_entered at.In-default)) (λ t. t) k (stuck ls (shape_in c.new-turned.result.of) (Some k) (turned_shape at.After-new-turned) c.in-Some-first-stuck.ensures)
-    c.on-in-Some-first-stuck.result c.on-in-Some-first-stuck.ensures
+    let k = c.in-Some-first_stuck.number in
+    let at = goal.at.returns-in-Some-first_stuck c in
+    refuse ls Stuck (all_reached at.In-default-first_unreached (not_entered at.In-default)) (λ t. t) k (stuck ls (shape_in c.new-turned.result.of) (Some k) (turned_shape at.After-new-turned) c.in-Some-first_stuck.ensures)
+    c.on-in-Some-first_stuck.result c.on-in-Some-first_stuck.ensures
 
 pub returns : goal.returns
 returns c =
     let ls = c.args.lines.now in
     let at = goal.at.returns c in (
       ap shape_in c.back.ensures ∙ turned_shape at.After-new-turned,
-      go_on ls Stuck (all_reached at.In-default-first-unreached (not_entered at.In-default)) (λ t. t) (stuck ls (shape_in c.new-turned.result.of) None (turned_shape at.After-new-turned) c.in-default-first-stuck.ensures),
+      go_on ls Stuck (all_reached at.In-default-first_unreached (not_entered at.In-default)) (λ t. t) (stuck ls (shape_in c.new-turned.result.of) None (turned_shape at.After-new-turned) c.in_default-first_stuck.ensures),
     )

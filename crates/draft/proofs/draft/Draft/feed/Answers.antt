@@ -5,7 +5,7 @@ use Rattle.draft.proofs.draft.Draft.feed.Goals as goal
 pub loop-edit-preserved : goal.loop-edit-preserved
 loop-edit-preserved c = (
   fed_more c.args.edits.now c.loop-edit.edit-index _ c.loop-edit-test.true _ _ _ c.loop-edit.invariant.0 c.apply-answer.ensures.1,
-  answers_more c.args.edits.now c.loop-edit.edit-index _ c.loop-edit-test.true _ _ _ _ _ _ c.loop-edit.invariant.1 c.apply-answer.ensures.1 c.apply-answer.ensures.0 c.push-reserved.ensures.items,
+  answers_more c.args.edits.now c.loop-edit.edit-index _ c.loop-edit-test.true _ _ _ _ _ _ c.loop-edit.invariant.1 c.apply-answer.ensures.1 c.apply-answer.ensures.0 c.push_reserved.ensures.items,
   search rules,
   search rules,
 )

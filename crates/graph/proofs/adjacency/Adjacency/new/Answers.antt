@@ -3,8 +3,8 @@ use Rattle.std.proofs.lemmas.List.Edits.{fill_by_more}
 use Rattle.graph.proofs.Flat.{flat, flat_grown, length_more, flat_short, found}
 use Rattle.graph.proofs.adjacency.Adjacency.new.Goals as goal
 
-pub put-heads-len-requires : goal.put-heads-len-requires
-put-heads-len-requires c =
+pub put_heads-len-requires : goal.put_heads-len-requires
+put_heads-len-requires c =
     let m = length_more c.loop-n.n c.args.edges.now in
     let s = flat_short (c.loop-n.n + 1) c.args.edges.now in
     omega arith
@@ -13,12 +13,12 @@ pub loop-n-preserved : goal.loop-n-preserved
 loop-n-preserved c =
     let es = c.args.edges.now in
     let n = c.loop-n.n in
-    let long : c.put-heads-len.result ≡ length (flat (n + 1) es) = let m = length_more n es in omega arith in (
-      flat_grown n es c.loop-n.invariant.0 c.put-heads-len.ensures.ends,
+    let long : c.put_heads-len.result ≡ length (flat (n + 1) es) = let m = length_more n es in omega arith in (
+      flat_grown n es c.loop-n.invariant.0 c.put_heads-len.ensures.ends,
       long,
       subst (λ (x : ℕ). (i : ℕ) → i < (n + 1) + 1 → get_or (set c.loop-n.starts (n + 1) x) i 0 ≡ length (flat i es)) (sym long)
           (fill_by_more (λ i. length (flat i es)) c.loop-n.starts (n + 1) 0 (omega arith) c.loop-n.invariant.2),
-      length-set c.loop-n.starts (n + 1) c.put-heads-len.result ∙ c.loop-n.invariant.3,
+      length-set c.loop-n.starts (n + 1) c.put_heads-len.result ∙ c.loop-n.invariant.3,
     )
 
 pub returns : goal.returns

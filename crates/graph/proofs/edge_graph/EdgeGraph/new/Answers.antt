@@ -6,39 +6,39 @@ use Rattle.graph.specs.EdgeLists.{within_from, within_turned, tails_turned}
 use Rattle.graph.specs.Making.{row_below, row_short, row_long, succs_are, preds_are, rows_same}
 use Rattle.graph.proofs.Shaped.{same_shape}
 use Rattle.graph.proofs.edge_graph.EdgeGraph.new.Goals as goal
-use Rattle.graph.proofs.edge_graph.EdgeGraph.new.Goals.{After-new-incoming, then-not-all-narrow-via-then-not-all-narrow, then-not-all-narrow-via-else-not-all-narrow+then-not-all-narrow-2}
+use Rattle.graph.proofs.edge_graph.EdgeGraph.new.Goals.{After-new-incoming, then-not-all_narrow-via-then-not-all_narrow, then-not-all_narrow-via-else-not-all_narrow+then-not-all_narrow-2}
 
 incoming : (c : After-new-incoming) (n : ℕ) → n < c.args.count → row c.new-incoming.result n ≡ heads_from n (map turned_edge c.args.edges.now)
 incoming c n h =
     let es = c.args.edges.now in
     let e : length es - 0 ≡ length es = omega arith in
-    c.new-incoming.ensures n h ∙ ap (heads_from n) (ap (λ (k : ℕ). take k c.turned-round-turned.result) e ∙ c.turned-round-turned.ensures)
+    c.new-incoming.ensures n h ∙ ap (heads_from n) (ap (λ (k : ℕ). take k c.turned_round-turned.result) e ∙ c.turned_round-turned.ensures)
 
-pub returns-then-not-all-within : goal.returns-then-not-all-within
-returns-then-not-all-within c sized few =
+pub returns-then-not-all_within : goal.returns-then-not-all_within
+returns-then-not-all_within c sized few =
     let es = c.args.edges.now in
-    both_ways (within c.args.count es) (sym c.if-not-all-within.ensures) (within_from c.args.count es sized.succs_in sized.preds_in)
+    both_ways (within c.args.count es) (sym c.if-not-all_within.ensures) (within_from c.args.count es sized.succs_in sized.preds_in)
 
-pub returns-then-not-all-narrow : goal.returns-then-not-all-narrow
-returns-then-not-all-narrow c sized few =
+pub returns-then-not-all_narrow : goal.returns-then-not-all_narrow
+returns-then-not-all_narrow c sized few =
     let es = c.args.edges.now in
-    elim c.then-not-all-narrow.branch [
-      | then-not-all-narrow-via-then-not-all-narrow w ↦ row_long c.args.count es c.new-outgoing.result c.new-outgoing.ensures (sym w.if-not-all-narrow.ensures) sized.succs_short
-      | then-not-all-narrow-via-else-not-all-narrow+then-not-all-narrow-2 w ↦
-          row_long c.args.count (map turned_edge es) c.new-incoming.result (incoming (goal.at.returns-then-not-all-narrow c).After-new-incoming) (sym w.if-not-all-narrow-2.ensures)
+    elim c.then-not-all_narrow.branch [
+      | then-not-all_narrow-via-then-not-all_narrow w ↦ row_long c.args.count es c.new-outgoing.result c.new-outgoing.ensures (sym w.if-not-all_narrow.ensures) sized.succs_short
+      | then-not-all_narrow-via-else-not-all_narrow+then-not-all_narrow-2 w ↦
+          row_long c.args.count (map turned_edge es) c.new-incoming.result (incoming (goal.at.returns-then-not-all_narrow c).After-new-incoming) (sym w.if-not-all_narrow-2.ensures)
           (λ n. subst (λ (l : List ℕ). length l ≤ 288) (sym (tails_turned es n)) (sized.preds_short n))
     ]
 
-pub invariant-of-result : goal.invariant-of-result
-invariant-of-result c =
+pub invariant_of-result : goal.invariant_of-result
+invariant_of-result c =
     let n = c.args.count in
     let es = c.args.edges.now in
     let o = c.new-outgoing.result in
     let i = c.new-incoming.result in
     let out = c.new-outgoing.ensures in
-    let into = incoming (goal.at.invariant-of-result c).After-new-incoming in
-    let w = sym c.if-not-all-within.ensures in (
-      c.if-count-gt-MOST-NODES.false,
+    let into = incoming (goal.at.invariant_of-result c).After-new-incoming in
+    let w = sym c.if-not-all_within.ensures in (
+      c.if-count-gt-MOST_NODES.false,
       (
         c.if-entry-count.false,
         (
@@ -48,9 +48,9 @@ invariant-of-result c =
             (
               row_below n (map turned_edge es) i into (within_turned n es ∙ w),
               (
-                row_short n es o out (sym c.if-not-all-narrow.ensures),
+                row_short n es o out (sym c.if-not-all_narrow.ensures),
                 (
-                  row_short n (map turned_edge es) i into (sym c.if-not-all-narrow-2.ensures),
+                  row_short n (map turned_edge es) i into (sym c.if-not-all_narrow-2.ensures),
                   (rows_same n es o i out into w, tt),
                 ),
               ),
@@ -68,5 +68,5 @@ returns c =
     let i = c.new-incoming.result in
     let out = c.new-outgoing.ensures in
     let into = incoming (goal.at.returns c).After-new-incoming in
-    let w = sym c.if-not-all-within.ensures in
+    let w = sym c.if-not-all_within.ensures in
     same_shape refl refl refl (succs_are n es o i out into w) (preds_are n es o i out into w)

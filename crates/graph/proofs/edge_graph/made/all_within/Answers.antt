@@ -8,7 +8,7 @@ use Rattle.graph.proofs.edge_graph.made.all_within.Goals.{then-edge-count-via-th
 pub returns-then-edge-count : goal.returns-then-edge-count
 returns-then-edge-count c =
     let es = c.args.edges.now in
-    let i = c.loop-edge.edge_index in
+    let i = c.loop-edge.edge-index in
     let h = c.loop-edge-test.true in
     elim c.then-edge-count.branch [
       | then-edge-count-via-then-edge-count w ↦ sym (c.loop-edge.invariant ∙ tail_beyond es i _ h c.args.count w.if-edge-count.true)
@@ -16,7 +16,7 @@ returns-then-edge-count c =
     ]
 
 pub loop-edge-preserved : goal.loop-edge-preserved
-loop-edge-preserved c = c.loop-edge.invariant ∙ within_past c.args.edges.now c.loop-edge.edge_index _ c.loop-edge-test.true c.args.count c.if-edge-count.false c.if-edge-count-2.false
+loop-edge-preserved c = c.loop-edge.invariant ∙ within_past c.args.edges.now c.loop-edge.edge-index _ c.loop-edge-test.true c.args.count c.if-edge-count.false c.if-edge-count-2.false
 
 pub returns : goal.returns
-returns c = sym (c.loop-edge.invariant ∙ at_drop_all (within c.args.count) c.args.edges.now c.loop-edge.edge_index c.loop-edge-test.false)
+returns c = sym (c.loop-edge.invariant ∙ at_drop_all (within c.args.count) c.args.edges.now c.loop-edge.edge-index c.loop-edge-test.false)

@@ -3,15 +3,15 @@ use Rattle.line.specs.Names.{is_name, kept}
 use Rattle.line.specs.Tokens.{label_made, word_from, over_zeros}
 use Rattle.line.proofs.label.Label.from_token.Goals as goal
 
-pub invariant-of-result : goal.invariant-of-result
-invariant-of-result c =
+pub invariant_of-result : goal.invariant_of-result
+invariant_of-result c =
     let t = c.args.token.now in (
-      subst (λ (l : List ℕ). is_name l (length t) ≡ true) (sym (over_zeros t _ c.copy-from-slice.ensures.after))
-          (kept t (word_from t c.if-size-eq0.false (omega (arith, c.if-size-gt8.false)) c.if-not-all-letters.ensures)),
+      subst (λ (l : List ℕ). is_name l (length t) ≡ true) (sym (over_zeros t _ c.copy_from_slice.ensures.after))
+          (kept t (word_from t c.if-size-eq0.false (omega (arith, c.if-size-gt8.false)) c.if-not-all_letters.ensures)),
       tt,
     )
 
 pub returns : goal.returns
 returns c =
     let t = c.args.token.now in
-    label_made t _ (word_from t c.if-size-eq0.false (omega (arith, c.if-size-gt8.false)) c.if-not-all-letters.ensures) (over_zeros t _ c.copy-from-slice.ensures.after) refl
+    label_made t _ (word_from t c.if-size-eq0.false (omega (arith, c.if-size-gt8.false)) c.if-not-all_letters.ensures) (over_zeros t _ c.copy_from_slice.ensures.after) refl

@@ -23,8 +23,8 @@ returns-then-number-self g c =
     let s = c.args.self.now in
     let full : length (items_of s) ≡ room_of s = ap length (take_all s.len s.slots.now c.if-number-self.true) in
     record {
-      value = full_answer (laws g) (room_of s) c.args.element (items_of s) c.in-default.ensures _ full;
-      appearance = (is_new (laws g) (room_of s) c.args.element (items_of s) c.in-default.ensures, full, refl);
+      value = full_answer (laws g) (room_of s) c.args.element (items_of s) c.in_default.ensures _ full;
+      appearance = (is_new (laws g) (room_of s) c.args.element (items_of s) c.in_default.ensures, full, refl);
       room = refl {a = room_of s};
     }
 
@@ -35,7 +35,7 @@ returns g c =
     let size : s.len ≡ length (items_of s) = sym (length-take-le s.len s.slots.now (le_of_lt i)) in
     let more = take_more_set s.slots.now s.len c.args.element i in
     record {
-      value = new_answer (laws g) (room_of s) c.args.element (items_of s) c.in-default.ensures s.len _ size i more;
-      appearance = new_appearance (laws g) (room_of s) c.args.element (items_of s) c.in-default.ensures s.len _ size more;
+      value = new_answer (laws g) (room_of s) c.args.element (items_of s) c.in_default.ensures s.len _ size i more;
+      appearance = new_appearance (laws g) (room_of s) c.args.element (items_of s) c.in_default.ensures s.len _ size more;
       room = length-set s.slots.now s.len c.args.element;
     }

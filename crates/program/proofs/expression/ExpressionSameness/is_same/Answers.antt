@@ -8,5 +8,5 @@ returns-then-first c =
     let a = c.args.self.now in
     let b = c.args.other.now in
     let equal : a.operator ≡ b.operator = subst (λ (x : Bool). cond x (a.operator ≡ b.operator) (a.operator ≡ b.operator → ⊥)) c.if-first.true.0 c.eq-operator.ensures in
-    let same : c.same-operand-second.result ≡ same_expression a b = c.same-operand-second.ensures ∙ sym (by_parts a b equal (sym c.same-operand-first.ensures ∙ c.if-first.true.1)) in
+    let same : c.same_operand-second.result ≡ same_expression a b = c.same_operand-second.ensures ∙ sym (by_parts a b equal (sym c.same_operand-first.ensures ∙ c.if-first.true.1)) in
     record { value = same; equal = subst (λ (r : Bool). Decides r (a ≡ b)) (sym same) (expression_decides a b) }

@@ -9,13 +9,13 @@ use Rattle.program.specs.Written.{expressions_in}
 use Rattle.program.proofs.Crowding.{quiet, crowds}
 use Rattle.program.proofs.Scanning.{none_left}
 use Rattle.program.proofs.sealing.expressions.first_crowding.Goals as goal
-use Rattle.program.proofs.sealing.expressions.first_crowding.Goals.{in-Some+else-is-err, in-default}
+use Rattle.program.proofs.sealing.expressions.first_crowding.Goals.{in-Some+else-is_err, in_default}
 
-pub returns-then-is-err : goal.returns-then-is-err
-returns-then-is-err c =
+pub returns-then-is_err : goal.returns-then-is_err
+returns-then-is_err c =
     elim (crowds c.args.lines.now c.loop-number.number c.index-lines-number.result c.loop-number-test.true c.index-lines-number.is c.loop-number.table c.loop-number.invariant.0
     c.in-Some.expression c.number.result (items_of c.number.new.self) c.loop-number.invariant.1 (sym c.in-Some.ensures) c.number.ensures.value) [
-      | inl h ↦ absurd (false≢true (sym h.0 ∙ sym c.if-is-err.ensures.value))
+      | inl h ↦ absurd (false≢true (sym h.0 ∙ sym c.if-is_err.ensures.value))
       | inr h ↦ record { lowest = (h.1, c.loop-number.invariant.2); table = λ e. absurd (let z : ◌≡◌ {A = ℕ} 0 1 = cc in omega arith) }
     ]
 
@@ -24,7 +24,7 @@ loop-number-preserved c =
     let ls = c.args.lines.now in
     let k = c.loop-number.number in
     elim c.match-of.branch [
-      | in-Some+else-is-err w ↦
+      | in-Some+else-is_err w ↦
           elim (crowds ls k c.index-lines-number.result c.loop-number-test.true c.index-lines-number.is c.loop-number.table c.loop-number.invariant.0
           w.in-Some.expression w.number.result (items_of w.number.new.self) c.loop-number.invariant.1 (sym w.in-Some.ensures) w.number.ensures.value) [
             | inl h ↦ (
@@ -32,10 +32,10 @@ loop-number-preserved c =
               ap room_of w.table-is ∙ w.number.ensures.room ∙ c.loop-number.invariant.1,
               below_more (λ j. Fits asks ls Crowded (suc j) → ⊥) k c.loop-number.invariant.2 h.2,
             )
-            | inr h ↦ absurd (false≢true (w.if-is-err.ensures.value ∙ h.0))
+            | inr h ↦ absurd (false≢true (w.if-is_err.ensures.value ∙ h.0))
           ]
-      | in-default w ↦
-          let h = quiet ls k c.index-lines-number.result c.loop-number-test.true c.index-lines-number.is c.loop-number.table c.loop-number.invariant.0 (sym w.in-default.ensures) in
+      | in_default w ↦
+          let h = quiet ls k c.index-lines-number.result c.loop-number-test.true c.index-lines-number.is c.loop-number.table c.loop-number.invariant.0 (sym w.in_default.ensures) in
           (ap items_of w.table-is ∙ h.0, ap room_of w.table-is ∙ c.loop-number.invariant.1, below_more (λ j. Fits asks ls Crowded (suc j) → ⊥) k c.loop-number.invariant.2 h.1)
     ]
 

@@ -19,9 +19,9 @@ numbered c =
     (items_of c.loop-number.labels) c.loop-number.invariant.0 (room_of c.loop-number.labels) c.number.result (items_of c.number.new.self)
     (omega (arith, c.requires.room)) c.number.ensures.value
 
-pub returns-in-default : goal.returns-in-default
-returns-in-default c = elim (numbered (goal.at.returns-in-default c).After-number) [
-  | inl h ↦ let e = h.0 in absurd (c.in-default.not-Ok _ e)
+pub returns-in_default : goal.returns-in_default
+returns-in_default c = elim (numbered (goal.at.returns-in_default c).After-number) [
+  | inl h ↦ let e = h.0 in absurd (c.in_default.not-Ok _ e)
   | inr h ↦ record { lowest = (h.1, c.loop-number.invariant.2); labels = λ e. absurd (let z : ◌≡◌ {A = ℕ} 0 1 = cc in omega arith) }
 ]
 

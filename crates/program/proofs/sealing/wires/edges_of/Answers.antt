@@ -10,8 +10,8 @@ use Rattle.program.specs.Refusals.{every_known, places_of}
 use Rattle.program.proofs.Wiring.{line_known, edges_step, edges_room}
 use Rattle.program.proofs.sealing.wires.edges_of.Goals as goal
 
-pub put-edges-len-requires : goal.put-edges-len-requires
-put-edges-len-requires c =
+pub put_edges-len-requires : goal.put_edges-len-requires
+put_edges-len-requires c =
     let ls = c.args.lines.now in
     let k = c.loop-number.number in
     record {
@@ -25,9 +25,9 @@ loop-number-preserved c =
     let ls = c.args.lines.now in
     let k = c.loop-number.number in
     let room = edges_room ls k c.index-lines-number.result c.loop-number-test.true c.index-lines-number.is c.loop-number.len c.loop-number.list c.loop-number.invariant.0 c.loop-number.invariant.1 c.loop-number.invariant.2 c.requires.few in (
-      c.put-edges-len.array_long,
-      omega (arith, c.put-edges-len.ensures.len),
-      c.put-edges-len.ensures.edges
+      c.put_edges-len.array_long,
+      omega (arith, c.put_edges-len.ensures.len),
+      c.put_edges-len.ensures.edges
           ∙ ap (λ (es : List Edge). es ++ fan k (places_of (items_of c.args.labels.now) (nexts c.index-lines-number.result))) c.loop-number.invariant.2
           ∙ ap (λ (l : List Label). edges_from asks ls 0 (take k ls) ++ fan k (places_of l (nexts c.index-lines-number.result))) c.requires.labels
           ∙ sym (edges_step ls k c.index-lines-number.result c.loop-number-test.true c.index-lines-number.is),

@@ -7,13 +7,13 @@ use Rattle.wellformed.specs.Lines.{fan}
 use Rattle.program.specs.Refusals.{every_known, places_of}
 use Rattle.program.proofs.Wiring.{is_found, edge_more}
 use Rattle.program.proofs.sealing.wires.put_edges.Goals as goal
-use Rattle.program.proofs.sealing.wires.put_edges.Goals.{in-Some, in-default}
+use Rattle.program.proofs.sealing.wires.put_edges.Goals.{in-Some, in_default}
 
 pub bounds-list-at : goal.bounds-list-at
 bounds-list-at c = let e = ap length (c.labels-label-items.ensures ∙ c.of.ensures) in let p = c.loop-label.invariant.1 in omega (arith, c.requires.room, c.loop-label-test.true)
 
-pub offset-bounds-list-at : goal.offset-bounds-list-at
-offset-bounds-list-at c = let i = bounds-list-at c in omega arith
+pub offset_bounds-list-at : goal.offset_bounds-list-at
+offset_bounds-list-at c = let i = bounds-list-at c in omega arith
 
 pub loop-label-preserved : goal.loop-label-preserved
 loop-label-preserved c =
@@ -32,7 +32,7 @@ loop-label-preserved c =
             (let q = w.at-is in omega arith),
             ap (λ (n : ℕ). take n c.match-find.list) w.at-is ∙ ap (take (c.loop-label.at + 1)) w.list-is ∙ held,
           )
-      | in-default w ↦ absurd (is_found items ks i c.label-item.result all c.loop-label-test.true c.label-item.is c.find.result c.find.ensures w.in-default.is)
+      | in_default w ↦ absurd (is_found items ks i c.label-item.result all c.loop-label-test.true c.label-item.is c.find.result c.find.ensures w.in_default.is)
     ]
 
 pub returns : goal.returns
