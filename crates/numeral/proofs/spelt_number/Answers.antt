@@ -10,7 +10,7 @@ fits t u e q h =
     subst (λ (x : List ℕ). IsNumeral 10 (without_leading_sign x) × SFits w64 (signed_digits_value 10 x) → ⊥) q h (numeral t s, record { sfits = omega (arith, spelling_mag t s) })
 
 pub unreachable-requires : goal.unreachable-requires
-unreachable-requires c = fits _ _ c.requires c.in-Ok.ensures.cases.0 c.in-Err-parse.ensures.reads.0
+unreachable-requires c = fits _ _ c.requires c.in-Ok.ensures.cases.0 c.in-Err-parse.ensures.value.0
 
 pub unreachable-requires-in-Err : goal.unreachable-requires-in-Err
 unreachable-requires-in-Err c = c.in-Err.ensures.cases.0 (spelling_utf8 _ (spelling _ c.requires))

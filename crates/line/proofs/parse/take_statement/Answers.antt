@@ -6,17 +6,17 @@ use Rattle.line.specs.States.{named, begun, testing, putting, tested, acted}
 use Rattle.line.proofs.Runs.{worded, gave_none}
 use Rattle.line.proofs.parse.take_statement.Goals as goal
 
-pub returns-in_ok-tested : goal.returns-in_ok-tested
-returns-in_ok-tested c =
+pub returns-in_ok-tested-in-If : goal.returns-in_ok-tested-in-If
+returns-in_ok-tested-in-If c =
     record {
-      leads = λ l. worded _ _ _ _ _ c.in_ok-token.token _ _ l (testing l) (λ o. tested l o) c.in_ok-token.ensures.token c.in-If.ensures refl (λ x. refl) c.in_ok-token.ensures.end c.in_ok-tested.ensures.took;
+      leads = λ l. worded _ _ _ _ _ c.in_ok-token.token _ _ l (testing l) (λ o. tested l o) c.in_ok-token.ensures.token c.in-If.ensures refl (λ x. refl) c.in_ok-token.ensures.end c.in_ok-tested-in-If.ensures.took;
       end = search rules;
     }
 
-pub returns-in_ok-told : goal.returns-in_ok-told
-returns-in_ok-told c =
+pub returns-in_ok-told-in-Put : goal.returns-in_ok-told-in-Put
+returns-in_ok-told-in-Put c =
     record {
-      leads = λ l. worded _ _ _ _ _ c.in_ok-token.token _ _ l (putting l) (λ o. acted l (act.Put o)) c.in_ok-token.ensures.token c.in-Put.ensures refl (λ x. refl) c.in_ok-token.ensures.end c.in_ok-told.ensures.took;
+      leads = λ l. worded _ _ _ _ _ c.in_ok-token.token _ _ l (putting l) (λ o. acted l (act.Put o)) c.in_ok-token.ensures.token c.in-Put.ensures refl (λ x. refl) c.in_ok-token.ensures.end c.in_ok-told-in-Put.ensures.took;
       end = search rules;
     }
 

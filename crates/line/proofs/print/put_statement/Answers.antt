@@ -30,9 +30,9 @@ returns-in-If c =
       ink = more _ _ ink (codes "if") (o ∷ codes "->" ∷ a ∷ b ∷ []) c.put_word-in-If.ensures.ink
           (more _ _ (ink_of c.put_word-in-If.new.sheet) o (codes "->" ∷ a ∷ b ∷ []) c.put_operand.ensures.ink
           (more _ _ (ink_of c.put_operand.new.sheet) (codes "->") (a ∷ b ∷ []) c.put_word-in-If-2.ensures.ink
-          (more _ _ (ink_of c.put_word-in-If-2.new.sheet) a (b ∷ []) (c.put_word-in-If-3.ensures.ink ∙ ap (λ w. ink_of c.put_word-in-If-2.new.sheet ++ 32 ∷ w) c.text_in-If.ensures.text)
-          (last _ (ink_of c.put_word-in-If-3.new.sheet) b (c.put_word-in-If-4.ensures.ink ∙ ap (λ w. ink_of c.put_word-in-If-3.new.sheet ++ 32 ∷ w) c.text_in-If-2.ensures.text)))))
+          (more _ _ (ink_of c.put_word-in-If-2.new.sheet) a (b ∷ []) (c.put_word-in-If-3.ensures.ink ∙ ap (λ w. ink_of c.put_word-in-If-2.new.sheet ++ 32 ∷ w) c.text-in-If.ensures.text)
+          (last _ (ink_of c.put_word-in-If-3.new.sheet) b (c.put_word-in-If-4.ensures.ink ∙ ap (λ w. ink_of c.put_word-in-If-3.new.sheet ++ 32 ∷ w) c.text-in-If-2.ensures.text)))))
           ∙ ap (λ s. ink ++ spaced (spell_statement s)) (sym c.in-If.is);
-      len = omega (arith, c.requires, c.put_word-in-If.ensures.len, c.put_operand.ensures.len, c.put_word-in-If-2.ensures.len, c.put_word-in-If-3.ensures.len, c.put_word-in-If-4.ensures.len, c.text_in-If.ensures.few, c.text_in-If-2.ensures.few);
+      len = omega (arith, c.requires, c.put_word-in-If.ensures.len, c.put_operand.ensures.len, c.put_word-in-If-2.ensures.len, c.put_word-in-If-3.ensures.len, c.put_word-in-If-4.ensures.len, c.text-in-If.ensures.few, c.text-in-If-2.ensures.few);
       fits = subst (EachStatement Fits) (sym c.in-If.is) c.put_operand.ensures.fits;
     }

@@ -8,4 +8,7 @@ tested : (xs ys : List ℕ) (r : Bool) → Decides r (xs ≡ ys) → r ≡ bytes
 tested xs ys r h = search (rules, bytes_eq-Decides)
 
 pub returns : goal.returns
-returns c = tested _ _ _ (slice_eq-Decides Decides-eqb _ _ _ c.eq.ensures) ∙ ap (bytes_eq c.args.token.now) c.as_bytes.ensures.value
+returns c =
+    let t = c.args.token.now in
+    let s = c.as_bytes.result.now in
+    tested t s c.eq.result (slice_eq-Decides Decides-eqb t s c.eq.result c.eq.ensures) ∙ ap (bytes_eq c.args.token.now) c.as_bytes.ensures.value

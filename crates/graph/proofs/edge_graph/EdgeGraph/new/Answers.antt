@@ -37,28 +37,17 @@ invariant_of-result c =
     let i = c.new-incoming.result in
     let out = c.new-outgoing.ensures in
     let into = incoming (goal.at.invariant_of-result c).After-new-incoming in
-    let w = sym c.if-not-all_within.ensures in (
-      c.if-count-gt-MOST_NODES.false,
-      (
-        c.if-entry-count.false,
-        (
-          c.if-exit-count.false,
-          (
-            row_below n es o out w,
-            (
-              row_below n (map turned_edge es) i into (within_turned n es ∙ w),
-              (
-                row_short n es o out (sym c.if-not-all_narrow.ensures),
-                (
-                  row_short n (map turned_edge es) i into (sym c.if-not-all_narrow-2.ensures),
-                  (rows_same n es o i out into w, tt),
-                ),
-              ),
-            ),
-          ),
-        ),
-      ),
-    )
+    let w = sym c.if-not-all_within.ensures in
+    record {
+      most = c.if-count-gt-MOST_NODES.false;
+      enters = c.if-entry-count.false;
+      leaves = c.if-exit-count.false;
+      heads = row_below n es o out w;
+      tails = row_below n (map turned_edge es) i into (within_turned n es ∙ w);
+      few_heads = row_short n es o out (sym c.if-not-all_narrow.ensures);
+      few_tails = row_short n (map turned_edge es) i into (sym c.if-not-all_narrow-2.ensures);
+      same = rows_same n es o i out into w;
+    }
 
 pub returns : goal.returns
 returns c =

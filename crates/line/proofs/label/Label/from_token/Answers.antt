@@ -5,11 +5,12 @@ use Rattle.line.proofs.label.Label.from_token.Goals as goal
 
 pub invariant_of-result : goal.invariant_of-result
 invariant_of-result c =
-    let t = c.args.token.now in (
-      subst (λ (l : List ℕ). is_name l (length t) ≡ true) (sym (over_zeros t _ c.copy_from_slice.ensures.after))
-          (kept t (word_from t c.if-size-eq0.false (omega (arith, c.if-size-gt8.false)) c.if-not-all_letters.ensures)),
-      tt,
-    )
+    let t = c.args.token.now in
+    record {
+      ok =
+        subst (λ (l : List ℕ). is_name l (length t) ≡ true) (sym (over_zeros t _ c.copy_from_slice.ensures.after))
+          (kept t (word_from t c.if-size-eq0.false (omega (arith, c.if-size-gt8.false)) c.if-not-all_letters.ensures));
+    }
 
 pub returns : goal.returns
 returns c =
