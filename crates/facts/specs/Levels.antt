@@ -1,5 +1,5 @@
 -- Depths: extensionality and the laws of the smaller. Assumes nothing.
-use Rattle.std.specs.Prelude.{◌≡◌, ℕ, ◌≤◌, min, T, refl}
+use Rattle.std.specs.Prelude.{◌≡◌, ◌≤◌, min, T, refl}
 use Rattle.std.proofs.Common.{ap, arith, eqb→eq}
 use mathlib.Core.HLevel.{is_prop→PathP}
 use Rattle.std.proofs.Math.Bridge.{le_prop}

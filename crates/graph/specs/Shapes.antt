@@ -1,5 +1,5 @@
 -- What a flow graph is: nodes below a count, one of them the entry and one the exit, and the two lists of each node. Assumes nothing.
-use Rattle.std.specs.Prelude.{◌≡◌, ℕ, ◌+◌, ◌<◌, ◌≤◌, Bool, true, false, cond, ◌||◌, List, [], ◌∷◌, length, ◌==◌}
+use Rattle.std.specs.Prelude.{◌≡◌, ℕ, ◌+◌, ◌<◌, ◌≤◌, cond, List, [], ◌∷◌, length, ◌==◌}
 
 -- succs and preds have one element for each edge
 pub record Shape : Type 0 where

@@ -1,7 +1,7 @@
 -- Numbers by first appearance. Assumes nothing.
-use Rattle.std.proofs.Common.{◌≡◌, ℕ, zero, suc, ◌+◌, ◌<◌, ◌≤◌, Bool, true, false, cond, ◌||◌, T, ◌⊎◌, List, [], ◌∷◌, ◌++◌, length, sym, refl, ap, ◌∙◌, subst, inl, inr, arith}
+use Rattle.std.proofs.Common.{◌≡◌, suc, ◌<◌, Bool, true, false, cond, ◌||◌, T, ◌⊎◌, List, [], ◌∷◌, ◌++◌, length, sym, refl, ap, ◌∙◌, subst, inl, inr, arith}
 use Rattle.numbering.specs.Numbers.{Laws, unless, append_unless, known, number, gather, firsts, before}
-use Rattle.numbering.proofs.Bools.{tell, true_of, false_of, iff, or_i, or_e}
+use Rattle.numbering.proofs.Bools.{true_of, false_of, iff, or_i, or_e}
 
 module _ {A : Type 0} {same : A → A → Bool} (laws : Laws same) where
   -- which elements are known

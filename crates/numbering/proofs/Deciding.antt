@@ -1,5 +1,5 @@
 -- A test that decides equality is one of sameness. Assumes nothing.
-use Rattle.std.proofs.Common.{◌≡◌, Bool, true, T, Decides, sym, refl, ◌∙◌, subst}
+use Rattle.std.proofs.Common.{◌≡◌, Bool, T, Decides, sym, refl, ◌∙◌, subst}
 use Rattle.numbering.specs.Numbers.{Laws}
 use Rattle.numbering.proofs.Bools.{true_of}
 

@@ -1,9 +1,9 @@
 -- What is answered to one element. Assumes nothing.
-use Rattle.std.proofs.Common.{◌≡◌, ℕ, ◌<◌, ◌≤◌, Bool, true, false, cond, T, ltb, List, [], ◌∷◌, ◌++◌, length, Some, None, Ok, Err, Option, Result, sym, refl, ap, ◌∙◌, subst, le_refl, arith}
+use Rattle.std.proofs.Common.{◌≡◌, ℕ, ◌<◌, ◌≤◌, Bool, true, false, cond, T, ltb, List, [], ◌∷◌, ◌++◌, length, Some, None, Ok, Err, Result, sym, refl, ap, ◌∙◌, subst, le_refl, arith}
 use Rattle.std.proofs.lemmas.Bool.{lt-ltb, le-ltb, ltb-true, ltb-false}
 use Rattle.numbering.specs.declared.list.NoRoom.{NoRoom}
 use Rattle.numbering.specs.Lists.{Answered, ByAppearance}
-use Rattle.numbering.specs.Numbers.{Laws, Entered, append_unless, known, number, number_in, entered, firsts, before}
+use Rattle.numbering.specs.Numbers.{Laws, Entered, append_unless, known, number, number_in, entered, firsts}
 use Rattle.numbering.proofs.Appearance.{known_firsts, number_firsts, new_number, firsts_more}
 
 module _ {A : Type 0} {same : A → A → Bool} (laws : Laws same) (room : ℕ) (a : A) (l : List A) where

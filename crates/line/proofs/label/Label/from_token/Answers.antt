@@ -8,7 +8,7 @@ invariant_of-result c =
     let t = c.args.token.now in
     record {
       ok =
-        subst (λ (l : List ℕ). is_name l (length t) ≡ true) (sym (over_zeros t _ c.copy_from_slice.ensures.after))
+          subst (λ (l : List ℕ). is_name l (length t) ≡ true) (sym (over_zeros t _ c.copy_from_slice.ensures.after))
           (kept t (word_from t c.if-size-eq0.false (omega (arith, c.if-size-gt8.false)) c.if-not-all_letters.ensures));
     }
 

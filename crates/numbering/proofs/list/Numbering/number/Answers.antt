@@ -1,4 +1,4 @@
-use Rattle.std.proofs.Common.{◌≡◌, Bool, length, sym, refl, ap, ◌∙◌, le_of_lt, length-set}
+use Rattle.std.proofs.Common.{◌≡◌, length, sym, refl, ap, le_of_lt, length-set}
 use Rattle.std.proofs.lemmas.List.{take_all, length-take-le, take_more_set}
 use Rattle.numbering.specs.Lists.{items_of, room_of}
 use Rattle.numbering.specs.Numbers.{Laws}
