@@ -1,5 +1,5 @@
 -- Queues: what a push and a pop do to the list of those who wait. Assumes nothing.
-use Rattle.std.proofs.Common.{◌≡◌, ℕ, zero, suc, ◌+◌, ◌-◌, ◌*◌, ◌%◌, ◌<◌, ◌≤◌, Bool, true, false, cond, ◌&&◌, eqb, ltb, ◌⊎◌, List, [], ◌∷◌, ◌++◌, length, get_or, set, replicate, sym, refl, ap, ◌∙◌, subst, ap₂, inl, inr, eq-or-lt_of_le, add-one, arith, length-set, get_or-set_other, get_or-set_same, ltb-true, eq-eqb, eqb-true}
+use Rattle.std.proofs.Common.{◌≡◌, ℕ, zero, suc, ◌+◌, ◌-◌, ◌%◌, ◌<◌, ◌≤◌, Bool, true, false, cond, ◌&&◌, eqb, ltb, List, [], ◌∷◌, ◌++◌, length, get_or, set, replicate, sym, refl, ap, ◌∙◌, subst, ap₂, inl, inr, eq-or-lt_of_le, add-one, arith, length-set, get_or-set_other, get_or-set_same, ltb-true, eq-eqb, eqb-true}
 use borrow.Author.Tests.{eqb-false}
 use Rattle.std.proofs.lemmas.Bool.{lt-ltb}
 use Rattle.std.proofs.lemmas.Bool.Decides.{nat_tests}
@@ -125,11 +125,17 @@ sound q = record { ring_long = q.rings; marks_long = q.flags; head_in = q.starts
 -- the ghost fields, one in the other
 abbrev pub Fields : List ℕ → List Bool → ℕ → ℕ → Type 0
 Fields ring marks head len =
-    (length ring ≡ 288) × ((length marks ≡ 288) × ((head < 288) × ((len ≤ 288) × ((all_below 288 (places ring head len) ≡ true)
-    × (((n : ℕ) → n < 288 → times n (places ring head len) ≡ cond (get_or marks n false) 1 0) × Unit {0})))))
+    record {
+      rings : length ring ≡ 288;
+      flags : length marks ≡ 288;
+      starts : head < 288;
+      fits : len ≤ 288;
+      nodes : all_below 288 (places ring head len) ≡ true;
+      marked : (n : ℕ) → n < 288 → times n (places ring head len) ≡ cond (get_or marks n false) 1 0;
+    }
 
 pub fields : (ring : List ℕ) (marks : List Bool) (head len : ℕ) → Sound ring marks head len → Fields ring marks head len
-fields ring marks head len s = (s.ring_long, (s.marks_long, (s.head_in, (s.len_in, (from_all 288 _ s.below, (s.marked, tt))))))
+fields ring marks head len s = record { rings = s.ring_long; flags = s.marks_long; starts = s.head_in; fits = s.len_in; nodes = from_all 288 _ s.below; marked = s.marked }
 
 once : (q : Queue) → (m : ℕ) → m < 288 → times m (waiting q) ≤ 1
 once q m h = let e = q.marked m h in grind (arith, nat_tests)

@@ -1,12 +1,12 @@
 -- What the solver keeps from visit to visit. Assumes nothing.
-use Rattle.std.proofs.Common.{◌≡◌, ℕ, zero, suc, ◌+◌, ◌-◌, ◌*◌, ◌<◌, ◌≤◌, Bool, true, false, cond, eqb, ◌⊎◌, List, [], ◌∷◌, ◌++◌, length, get_or, set, replicate, sym, refl, ap, ◌∙◌, subst, ap₂, inl, inr, eq-or-lt_of_le, arith, get_or-set_other, get_or-set_same, eq-eqb, eqb-true}
+use Rattle.std.proofs.Common.{◌≡◌, ℕ, zero, suc, ◌+◌, ◌-◌, ◌*◌, ◌<◌, ◌≤◌, Bool, true, false, cond, eqb, List, [], ◌∷◌, length, get_or, set, replicate, sym, refl, ap, ◌∙◌, subst, arith, get_or-set_other, get_or-set_same, eqb-true}
 use borrow.Author.Tests.{eqb-false}
 use Rattle.std.proofs.lemmas.List.{length-replicate}
 use Rattle.graph.specs.Shapes.{Shape, Sized, SameEdges, times, AllBelow}
 use Rattle.facts.specs.Order.{Below, Fell}
 use Rattle.flow.specs.Equations.{inflow, Safe, Solution}
 use Rattle.flow.specs.Rings.{joined_all}
-use Rattle.flow.proofs.Meets.{Laws, below_refl, below_trans, below_top, below_antisym, inflow_mono, inflow_other}
+use Rattle.flow.proofs.Meets.{Laws, below_refl, below_trans, below_top, inflow_mono, inflow_other}
 use Rattle.flow.specs.Falls.{Paid, paid_turn}
 use Rattle.flow.proofs.Joins.{all_keeps, all_in, all_below_joined}
 

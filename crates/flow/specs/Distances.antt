@@ -1,5 +1,5 @@
 -- Depths of nodes: 0 at the entry, one more an edge, and no more than 1,000. Assumes nothing.
-use Rattle.std.specs.Prelude.{ℕ, ◌+◌, ◌≤◌, min}
+use Rattle.std.specs.Prelude.{◌+◌, min}
 use Rattle.std.proofs.Math.Nat.{min-le_right}
 use Rattle.std.proofs.Common.{lit≤}
 use Rattle.facts.specs.declared.depth.Depth.{Depth}

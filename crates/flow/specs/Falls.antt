@@ -1,8 +1,8 @@
 -- How often facts have fallen, and how often they still can. Assumes nothing.
-use Rattle.std.specs.Prelude.{◌≡◌, ℕ, zero, suc, ◌+◌, ◌-◌, ◌*◌, ◌<◌, ◌≤◌, Bool, true, false, cond, List, [], ◌∷◌, length, ◌==◌, ◌≢◌, refl}
-use Rattle.std.proofs.Common.{sym, subst, ◌∙◌, inl, inr, suc-mul, arith, eqb-true, eq-eqb, ne_eqb}
+use Rattle.std.specs.Prelude.{◌≡◌, ℕ, zero, suc, ◌+◌, ◌-◌, ◌*◌, ◌<◌, ◌≤◌, cond, List, [], ◌∷◌, length, ◌==◌, ◌≢◌, refl}
+use Rattle.std.proofs.Common.{sym, subst, inl, inr, suc-mul, arith, eq-eqb, ne_eqb}
 use Rattle.std.proofs.Math.Path.{ap}
-use Rattle.std.proofs.lemmas.Bool.{cases_eq, eqb-false}
+use Rattle.std.proofs.lemmas.Bool.{cases_eq}
 use Rattle.facts.specs.Order.{Below, Fell}
 
 -- a kind whose facts have a rank that falls with them, and is at most h, falls at most h times

@@ -15,7 +15,7 @@ use numbering::Sameness;
 
 // Whether b lies not above a, so that a falls when they are met.
 fn lowers<F: Fact>(a: F, b: F) -> bool
-    ensures { MatchBool result (Below meet a b → ⊥) (Below meet a b) }
+    ensures { MatchBool result (Below F.Fact.meet a b → ⊥) (Below F.Fact.meet a b) }
 {
     let met = a.meet(b);
     !met.is_same(&a)

@@ -1,11 +1,11 @@
-use Rattle.std.proofs.Common.{◌≡◌, ℕ, ◌+◌, ◌<◌, ◌≤◌, List, length, get_or, drop, Some, None, sym, refl, ap, ◌∙◌, arith, rules}
+use Rattle.std.proofs.Common.{◌≡◌, ℕ, ◌+◌, ◌<◌, length, get_or, drop, Some, sym, ap, ◌∙◌, arith}
 use Rattle.std.specs.List.{slice_get}
 use Rattle.flow.specs.Equations.{inflow}
 use Rattle.flow.proofs.Meets.{Laws, laws_of, neighbour, inflow_next, inflow_end, read}
 use Rattle.flow.proofs.solver.incoming.Given as given
 use Rattle.flow.proofs.solver.incoming.Goals as goal
 
-laws : (g : given.Over) → Laws g.row.P-Fact-Fact.top g.row.P-Fact-Fact.meet
+laws : (g : given.Over) → Laws g.P.Fact.Fact.top g.P.Fact.Fact.meet
 laws g = let m = g.met.P.Fact.Fact in laws_of m.associative m.commutative m.idempotent m.neutral
 
 pub loop-m-init : goal.loop-m-init
@@ -33,8 +33,8 @@ pub loop-m-preserved : goal.loop-m-preserved
 loop-m-preserved g c =
     let b = (found g _ _ _ _ c.in-Some.ensures).1 in
     let i = (found g _ _ _ _ c.in-Some.ensures).0 in
-    let top = g.row.P-Fact-Fact.top in
-    let meet = g.row.P-Fact-Fact.meet in
+    let top = g.P.Fact.Fact.top in
+    let meet = g.P.Fact.Fact.meet in
     let step = g.P.Problem.step c.args.p.now in
     let facts = c.args.facts.now in
     let ps = (g.G.Graph.shape c.args.g.now).preds c.args.n in
@@ -46,7 +46,7 @@ loop-m-preserved g c =
 
 pub returns : goal.returns
 returns g c =
-    let top = g.row.P-Fact-Fact.top in
+    let top = g.P.Fact.Fact.top in
     let step = g.P.Problem.step c.args.p.now in
     let ps = (g.G.Graph.shape c.args.g.now).preds c.args.n in
     sym (inflow_end (laws g) step (λ m. get_or c.args.facts.now m top) ps c.loop-m.k c.loop-m.all (sym c.in_default.ensures)) ∙ c.loop-m.invariant.1

@@ -4,8 +4,8 @@ use Rattle.flow.proofs.solver.incoming.Given as goal
 
 abbrev pub invariant-loop-m : goal.invariant-loop-m
 invariant-loop-m g l =
-    let top = g.row.P-Fact-Fact.top in
-    let meet = g.row.P-Fact-Fact.meet in
+    let top = g.P.Fact.Fact.top in
+    let meet = g.P.Fact.Fact.meet in
     let ps = (g.G.Graph.shape l.g).preds l.n in
     let sum = inflow top meet (g.P.Problem.step l.p) (λ m. get_or l.facts m top) in
     (l.k ≤ length ps) × (meet l.all (sum (drop l.k ps)) ≡ sum ps)

@@ -1,4 +1,4 @@
-use Rattle.std.proofs.Common.{◌≡◌, ℕ, ◌+◌, ◌<◌, List, sym, subst, arith, below_more}
+use Rattle.std.proofs.Common.{ℕ, ◌<◌, List, sym, subst, arith, below_more}
 use Rattle.flow.specs.Waits.{waiting}
 use Rattle.graph.specs.Shapes.{times, AllBelow}
 use Rattle.flow.proofs.Joins.{joined_keeps, joined_in, joined_below}

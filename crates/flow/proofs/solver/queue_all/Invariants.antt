@@ -1,4 +1,4 @@
-use Rattle.std.proofs.Common.{ℕ, ◌<◌, ◌≤◌}
+use Rattle.std.proofs.Common.{ℕ, ◌<◌}
 use Rattle.flow.specs.Waits.{waiting}
 use Rattle.graph.specs.Shapes.{times, AllBelow}
 use Rattle.flow.proofs.solver.queue_all.Given as goal

@@ -1,4 +1,4 @@
-use Rattle.std.proofs.Common.{◌≡◌, ℕ, ◌-◌, ◌*◌, ◌<◌, ◌≤◌, get_or, set, replicate, sym, ◌∙◌, subst, ap₂, le_of_lt, arith, length-set}
+use Rattle.std.proofs.Common.{ℕ, ◌-◌, ◌*◌, ◌<◌, ◌≤◌, get_or, set, replicate, sym, ◌∙◌, subst, ap₂, le_of_lt, arith, length-set}
 use Rattle.std.proofs.lemmas.Nat.{mul-le}
 use Rattle.std.proofs.lemmas.List.{length-replicate}
 use Rattle.graph.specs.Shapes.{AllBelow, Sized, SameEdges, times}
@@ -10,7 +10,7 @@ use Rattle.flow.proofs.Visiting.{start_table, Visit, turn_table, turn_falls_tabl
 use Rattle.flow.proofs.solver.solve.Given as given
 use Rattle.flow.proofs.solver.solve.Goals as goal
 
-laws : (g : given.Over) → Laws g.row.P-Fact-Fact.top g.row.P-Fact-Fact.meet
+laws : (g : given.Over) → Laws g.P.Fact.Fact.top g.P.Fact.Fact.meet
 laws g = let m = g.met.P.Fact.Fact in laws_of m.associative m.commutative m.idempotent m.neutral
 
 pub overflow_mul-falls_left : goal.overflow_mul-falls_left
@@ -30,12 +30,12 @@ loop-n-init g c =
       length-set (replicate 288 c.top-facts.result) c.entry-first.result c.at_entry.result ∙ length-replicate 288 c.top-facts.result,
       start_table (laws g) (g.met.G.Graph.sized x) (g.met.G.Graph.edges x) (g.met.P.Problem.monotone c.args.p.now)
           c.top-facts.result c.at_entry.result c.entry-first.result ws c.top-facts.ensures c.at_entry.ensures c.entry-first.ensures inside each,
-      paid_begin g.row.P-Fact-Fact.meet g.P.Problem.height s.count _ _ (ap₂ ◌*◌ c.count-count.ensures c.falls_at_most.ensures),
+      paid_begin g.P.Fact.Fact.meet g.P.Problem.height s.count _ _ (ap₂ ◌*◌ c.count-count.ensures c.falls_at_most.ensures),
     )
 
 -- a visit at which the fact of a node fell
 module _ (g : given.Over) (c : goal.After-queue_successors g) where
-  abbrev here : Visit (g.G.Graph.shape c.args.g.now) g.row.P-Fact-Fact.top g.row.P-Fact-Fact.meet (g.P.Problem.given c.args.p.now) (g.P.Problem.step c.args.p.now)
+  abbrev here : Visit (g.G.Graph.shape c.args.g.now) g.P.Fact.Fact.top g.P.Fact.Fact.meet (g.P.Problem.given c.args.p.now) (g.P.Problem.step c.args.p.now)
   here = record {
     facts = c.loop-n.facts;
     node = c.in-Some.n;
@@ -55,8 +55,8 @@ module _ (g : given.Over) (c : goal.After-queue_successors g) where
   abbrev edges : SameEdges (g.G.Graph.shape c.args.g.now)
   edges = g.met.G.Graph.edges c.args.g.now
 
-  fallen : (1 ≤ c.loop-n.falls_left) × Paid g.row.P-Fact-Fact.meet g.P.Problem.height (g.G.Graph.shape c.args.g.now).count
-      (λ m. get_or (set c.loop-n.facts c.in-Some.n c.in-Some-revised.new) m g.row.P-Fact-Fact.top) (c.loop-n.falls_left - 1)
+  fallen : (1 ≤ c.loop-n.falls_left) × Paid g.P.Fact.Fact.meet g.P.Problem.height (g.G.Graph.shape c.args.g.now).count
+      (λ m. get_or (set c.loop-n.facts c.in-Some.n c.in-Some-revised.new) m g.P.Fact.Fact.top) (c.loop-n.falls_left - 1)
   fallen = turn_falls_table (laws g) sized edges (g.met.P.Problem.monotone c.args.p.now) here g.met.P.Problem.falls c.in-Some-revised.ensures.1 c.loop-n.invariant.2
 
 pub overflow_sub-falls_left : goal.overflow_sub-falls_left

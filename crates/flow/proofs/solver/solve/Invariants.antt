@@ -6,8 +6,8 @@ use Rattle.flow.proofs.solver.solve.Given as goal
 
 abbrev pub invariant-loop-n : goal.invariant-loop-n
 invariant-loop-n g l =
-    let top = g.row.P-Fact-Fact.top in
-    let meet = g.row.P-Fact-Fact.meet in
+    let top = g.P.Fact.Fact.top in
+    let meet = g.P.Fact.Fact.meet in
     let s = g.G.Graph.shape l.g in
     (length l.facts ≡ 288)
     × Going s top meet (g.P.Problem.given l.p) (g.P.Problem.step l.p) (λ n. get_or l.facts n top) (waiting l.queue)
