@@ -1,10 +1,10 @@
 -- What can be reached is near: the nodes within so many edges grow no more once there are as many edges as nodes. Assumes nothing.
-use Rattle.std.proofs.Common.{◌≡◌, ℕ, zero, suc, ◌+◌, ◌<◌, ◌≤◌, Bool, true, false, cond, ◌||◌, T, ◌⊎◌, List, [], ◌∷◌, sym, refl, subst, inl, inr, not-suc-le-zero, arith, eqb→eq}
+use Rattle.std.proofs.Common.{◌≡◌, ℕ, zero, suc, ◌+◌, ◌<◌, ◌≤◌, Bool, true, false, cond, T, ◌⊎◌, List, [], ◌∷◌, sym, refl, subst, inl, inr, not-suc-le-zero, arith, eqb→eq}
 use lib.Dec.{eqb_refl}
 use Rattle.std.proofs.lemmas.Bool.{cases_lt, cases_eq}
 use Rattle.graph.specs.Paths.{member, Reaches}
 use Rattle.graph.specs.Shapes.{Shape, SameEdges, AllBelow, turned}
-use Rattle.numbering.proofs.Bools.{tell, or_i, or_e}
+use Rattle.numbering.proofs.Bools.{or_i, or_e}
 use Rattle.reach.specs.Near.{some, near}
 use Rattle.reach.proofs.Paths.{member_first, member_later, member_cases, same_turned, pred_succ, reaches_end, reaches_round, round_reaches, path_keeps}
 

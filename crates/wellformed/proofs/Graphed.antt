@@ -1,5 +1,5 @@
 -- Lines in which no label is wanting and one line halts are a graph. Assumes nothing.
-use Rattle.std.proofs.Common.{◌≡◌, ℕ, suc, ◌+◌, ◌<◌, ◌≤◌, true, T, List, length, inl, inr, arith, lit<}
+use Rattle.std.proofs.Common.{◌≡◌, ℕ, suc, ◌<◌, ◌≤◌, true, List, length, inl, inr, arith, lit<}
 use Rattle.graph.specs.Edges.{within}
 use Rattle.graph.specs.Shapes.{AllBelow, SameEdges, Sized}
 use Rattle.graph.specs.EdgeLists.{heads_in, tails_in, heads_short, tails_short, same_edges}

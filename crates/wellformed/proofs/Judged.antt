@@ -1,9 +1,9 @@
 -- One fault after another, by rising number. Assumes nothing.
-use Rattle.std.proofs.Common.{◌≡◌, ℕ, zero, suc, ◌-◌, ◌<◌, ◌≤◌, ◌&&◌, T, ◌⊎◌, List, [], ◌∷◌, length, get_or, take, sym, refl, ap, ◌∙◌, subst, inl, inr, arith, lit<, lit≤, take_all}
+use Rattle.std.proofs.Common.{◌≡◌, ℕ, zero, suc, ◌-◌, ◌<◌, ◌≤◌, ◌&&◌, T, List, [], ◌∷◌, length, get_or, take, sym, refl, ap, ◌∙◌, subst, inl, inr, arith, lit<, lit≤, take_all}
 use Rattle.std.proofs.lemmas.Bool.{cases_lt, cases_eq, cases_order}
 use Rattle.graph.specs.Paths.{member}
 use Rattle.wellformed.specs.Faults.{Fault, Empty, Repeated, Dangling, Halts, Enters, Unreached, Stuck, Crowded, code, Fits, Clean, First, Faultless}
-use Rattle.wellformed.specs.Lines.{Questions, at, labelled, dangles, halting, nexts_at, targets, expressions_of}
+use Rattle.wellformed.specs.Lines.{Questions, labelled, dangles, halting, targets, expressions_of}
 use Rattle.wellformed.proofs.Lined.{at_in, nexts_past}
 
 abbrev decode : ℕ → Fault

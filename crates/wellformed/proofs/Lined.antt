@@ -1,13 +1,13 @@
 -- Lines: their labels, their edges, their halt and their expressions. Assumes nothing.
-use Rattle.std.proofs.Common.{◌≡◌, ℕ, zero, suc, ◌+◌, ◌<◌, ◌≤◌, Bool, true, false, not, ◌&&◌, ◌||◌, T, eqb, ltb, ◌⊎◌, List, [], ◌∷◌, ◌++◌, map, length, get_or, take, Some, None, Option, sym, refl, ap, ◌∙◌, subst, ap₂, inl, inr, append_assoc, append-nil, not-suc-le-zero, arith, length-append}
+use Rattle.std.proofs.Common.{◌≡◌, ℕ, zero, suc, ◌+◌, ◌<◌, ◌≤◌, Bool, true, false, not, ◌&&◌, ◌||◌, T, eqb, ltb, List, [], ◌∷◌, ◌++◌, map, length, get_or, take, Some, None, Option, sym, refl, ap, ◌∙◌, ap₂, inl, inr, append_assoc, append-nil, arith, length-append}
 use Rattle.std.proofs.lemmas.List.{length-map}
 use Rattle.std.proofs.lemmas.Bool.{and_from, eq-eqb, ne_eqb, lt-ltb}
 use Rattle.graph.specs.declared.edge.Edge.{Edge}
 use Rattle.graph.specs.Edges.{put, heads_from, within}
 use Rattle.graph.specs.Shapes.{AllBelow}
-use Rattle.numbering.specs.Numbers.{Laws, unless, append_unless, known, number, gather, firsts}
+use Rattle.numbering.specs.Numbers.{unless, append_unless, known, gather}
 use Rattle.numbering.proofs.Appearance.{number_in}
-use Rattle.numbering.proofs.Bools.{tell, true_of, or_i, or_e, and_l, and_r, not_i}
+use Rattle.numbering.proofs.Bools.{tell, or_i, not_i}
 use Rattle.wellformed.specs.Lines.{Questions, Lawful, at, onto, fan, labelled, place, dangles, targets, nexts_at, edges_from, edges_of_lines, halting, exit_of, computed, expressions_of}
 
 -- a test on line k

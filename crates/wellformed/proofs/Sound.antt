@@ -13,7 +13,7 @@ use Rattle.reach.proofs.Near.{near_reaches, reaches_near, near_back, back_near}
 use Rattle.reach.proofs.Paths.{member_first, pred_succ}
 use Rattle.wellformed.specs.Faults.{Dangling, Repeated, Halts, Enters, Unreached, Stuck, Crowded, Fits, Faultless}
 use Rattle.wellformed.specs.Lines.{Questions, Lawful, at, labelled, place, dangles, targets, nexts_at, halting, exit_of, graph_of, computed, expressions_of}
-use Rattle.wellformed.specs.Programs.{Only, Sound}
+use Rattle.wellformed.specs.Programs.{Sound}
 use Rattle.wellformed.proofs.Graphed.{graph_edges, graph_inside}
 use Rattle.wellformed.proofs.Lined.{at_line, dangles_at, succs_are, length_targets, one_more}
 

@@ -1,14 +1,14 @@
 -- The computed verdict is the first fault that fits. Assumes nothing.
-use Rattle.std.proofs.Common.{◌≡◌, ℕ, zero, suc, ◌+◌, ◌<◌, ◌≤◌, Bool, true, false, not, ◌&&◌, T, eqb, ◌⊎◌, List, [], ◌∷◌, length, take, Some, None, Option, sym, refl, ap, ◌∙◌, subst, inl, inr, arith, lit<, eqb→eq}
+use Rattle.std.proofs.Common.{◌≡◌, ℕ, zero, suc, ◌+◌, ◌<◌, ◌≤◌, Bool, true, false, T, eqb, List, length, take, Some, None, Option, sym, refl, ap, ◌∙◌, subst, inl, inr, arith, eqb→eq}
 use lib.Dec.{eqb_refl}
 use Rattle.std.proofs.lemmas.Bool.{cases_eq}
 use Rattle.graph.specs.Paths.{Reaches}
 use Rattle.graph.specs.Shapes.{turned}
-use Rattle.numbering.proofs.Bools.{tell, and_l, and_r, and_i, not_i, not_e}
+use Rattle.numbering.proofs.Bools.{and_l, and_r, and_i, not_i, not_e}
 use Rattle.reach.specs.Near.{near}
 use Rattle.reach.proofs.Near.{near_reaches, reaches_near, near_back, back_near}
-use Rattle.wellformed.specs.Faults.{Fault, Empty, Repeated, Dangling, Halts, Enters, Unreached, Stuck, Crowded, code, Fits, Clean, First, Faultless}
-use Rattle.wellformed.specs.Lines.{Questions, Lawful, at, labelled, dangles, halting, exit_of, edges_of_lines, graph_of, expressions_of}
+use Rattle.wellformed.specs.Faults.{Fault, Empty, Repeated, Dangling, Halts, Enters, Unreached, Stuck, Crowded, code, Fits, Clean}
+use Rattle.wellformed.specs.Lines.{Questions, Lawful, halting, exit_of, graph_of, expressions_of}
 use Rattle.wellformed.specs.Verdicts.{Refusal, keep, scan, found, fitting, pick, verdict, Answers, Right}
 use Rattle.wellformed.proofs.Sound.{sound}
 use Rattle.wellformed.proofs.Judged.{clean_none, clean_all, pass, named_in, at_most_one}
