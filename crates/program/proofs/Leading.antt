@@ -1,5 +1,6 @@
 -- Lines that lead to a given line, or to none. Assumes nothing.
 use Rattle.std.proofs.Common.{◌≡◌, ℕ, zero, suc, ◌+◌, ◌<◌, ◌≤◌, Bool, true, false, ◌||◌, T, eqb, List, [], ◌∷◌, ◌++◌, length, get_or, take, ℤ, Some, None, Decides, Option, sym, refl, ap, ◌∙◌, subst, arith, MatchOption}
+use Rattle.std.specs.Option.{option_eq}
 use Rattle.std.proofs.lemmas.List.{take_all, take_more}
 use Rattle.std.proofs.lemmas.Bool.{or_right, or_left, or_from}
 use Rattle.std.proofs.lemmas.Bool.Decides.{Decides-eqb, same_from_decides}
@@ -14,11 +15,11 @@ use Rattle.program.specs.Refusals.{labels_of, same_line_number, one_leads, Leads
 use Rattle.program.specs.Written.{Lines}
 
 -- what `==` tells of two optional numbers
-pub same_line : (a b : Option ℕ) (r : Bool) → MatchOption a (MatchOption b (r ≡ true) (λ y. r ≡ false)) (λ x. MatchOption b (r ≡ false) (λ y. Decides r (x ≡ y))) → r ≡ same_line_number a b
+pub same_line : (a b : Option ℕ) (r : Bool) → r ≡ option_eq eqb a b → r ≡ same_line_number a b
 same_line None None r h = h
 same_line None (Some n) r h = h
 same_line (Some m) None r h = h
-same_line (Some m) (Some n) r h = same_from_decides r (eqb m n) h (Decides-eqb m n)
+same_line (Some m) (Some n) r h = h
 
 module _ (ls : Lines) (to : Option ℕ) where
   abbrev leads : Label → Bool

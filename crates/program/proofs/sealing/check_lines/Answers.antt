@@ -5,12 +5,12 @@ use Rattle.wellformed.specs.Faults.{Repeated, Dangling, Clean}
 use Rattle.program.specs.Asked.{asks}
 use Rattle.program.proofs.Judging.{line_found, refuse, go_on, lowest_dangling, refuse_empty, some_lines}
 use Rattle.program.proofs.sealing.check_lines.Goals as goal
-use Rattle.program.proofs.sealing.check_lines.Goals.{Else-is_empty, In-default}
+use Rattle.program.proofs.sealing.check_lines.Goals.{Else-is_empty, In_default}
 
 begun : (c : goal.Else-is_empty) → Clean asks c.args.lines.now 8
 begun c = some_lines c.args.lines.now (eqb-false (length c.args.lines.now) 0 (sym c.if-is_empty.ensures))
 
-no_repeats : (c : goal.In-default) → Clean asks c.args.lines.now 8 → Clean asks c.args.lines.now 9
+no_repeats : (c : goal.In_default) → Clean asks c.args.lines.now 8 → Clean asks c.args.lines.now 9
 no_repeats c h = go_on c.args.lines.now Repeated h (λ t. t) c.in_default.ensures.lowest
 
 pub returns-then-is_empty : goal.returns-then-is_empty
@@ -30,12 +30,12 @@ returns-in-Some c = refuse c.args.lines.now Repeated (begun (goal.at.returns-in-
 pub first_leading-requires : goal.first_leading-requires
 first_leading-requires c = c.in_default.ensures.labels refl
 
-pub overflow_add-number_in-Some-first_leading : goal.overflow_add-number_in-Some-first_leading
-overflow_add-number_in-Some-first_leading c =
+pub overflow_add-number-in-Some-first_leading : goal.overflow_add-number-in-Some-first_leading
+overflow_add-number-in-Some-first_leading c =
     let ls = c.args.lines.now in
     let k = c.in-Some-first_leading.number in
-    let at = goal.at.overflow_add-number_in-Some-first_leading c in
-    let i = line_found ls Dangling (no_repeats at.In-default (begun at.Else-is_empty)) (λ t. t) k (lowest_dangling ls (Some k) c.in-Some-first_leading.ensures) in
+    let at = goal.at.overflow_add-number-in-Some-first_leading c in
+    let i = line_found ls Dangling (no_repeats at.In_default (begun at.Else-is_empty)) (λ t. t) k (lowest_dangling ls (Some k) c.in-Some-first_leading.ensures) in
     omega (arith, c.requires)
 
 pub returns-in-Some-first_leading : goal.returns-in-Some-first_leading
@@ -43,7 +43,7 @@ returns-in-Some-first_leading c =
     let ls = c.args.lines.now in
     let k = c.in-Some-first_leading.number in
     let at = goal.at.returns-in-Some-first_leading c in
-    refuse ls Dangling (no_repeats at.In-default (begun at.Else-is_empty)) (λ t. t) k (lowest_dangling ls (Some k) c.in-Some-first_leading.ensures)
+    refuse ls Dangling (no_repeats at.In_default (begun at.Else-is_empty)) (λ t. t) k (lowest_dangling ls (Some k) c.in-Some-first_leading.ensures)
     c.on-in-Some-first_leading.result c.on-in-Some-first_leading.ensures
 
 pub connect-requires : goal.connect-requires
@@ -53,5 +53,5 @@ connect-requires c =
     record {
       few = c.requires;
       labels = c.in_default.ensures.labels refl;
-      clean = go_on ls Dangling (no_repeats at.In-default (begun at.Else-is_empty)) (λ t. t) (lowest_dangling ls None c.in_default-first_leading.ensures);
+      clean = go_on ls Dangling (no_repeats at.In_default (begun at.Else-is_empty)) (λ t. t) (lowest_dangling ls None c.in_default-first_leading.ensures);
     }

@@ -10,7 +10,7 @@ use Rattle.program.specs.Refusals.{LowestLine}
 use Rattle.program.specs.Written.{Lines, exit_line}
 use Rattle.program.proofs.Judging.{line_found, refuse, go_on, lowest_line, lowest_entering}
 use Rattle.program.proofs.sealing.connect.Goals as goal
-use Rattle.program.proofs.sealing.connect.Goals.{In-default, In-default-first_unreached, After-new-turned}
+use Rattle.program.proofs.sealing.connect.Goals.{In_default, In_default-first_unreached, After-new-turned}
 
 -- what the two searches in the graph say of the lines
 
@@ -24,10 +24,10 @@ stuck ls s r e h =
 
 -- after each check
 
-not_entered : (c : goal.In-default) → Clean asks c.args.lines.now 12
+not_entered : (c : goal.In_default) → Clean asks c.args.lines.now 12
 not_entered c = go_on c.args.lines.now Enters c.in_ok-exit.ensures.1 (λ t. t) (lowest_entering c.args.lines.now c.requires.clean None c.in_default.ensures)
 
-all_reached : (c : goal.In-default-first_unreached) → Clean asks c.args.lines.now 12 → Clean asks c.args.lines.now 13
+all_reached : (c : goal.In_default-first_unreached) → Clean asks c.args.lines.now 12 → Clean asks c.args.lines.now 13
 all_reached c h = go_on c.args.lines.now Unreached h (λ t. t) (unreached c.args.lines.now (shape_in c.graph_of-graph.result) None c.graph_of-graph.ensures c.in_default-first_unreached.ensures)
 
 -- the graph that is turned round
@@ -50,26 +50,26 @@ returns-in-Some c =
 pub graph_of-graph-requires : goal.graph_of-graph-requires
 graph_of-graph-requires c = record { few = c.requires.few; labels = c.requires.labels; halts = c.in_ok-exit.ensures.0; clean = c.in_ok-exit.ensures.1 }
 
-pub overflow_add-number_in-Some-first_unreached : goal.overflow_add-number_in-Some-first_unreached
-overflow_add-number_in-Some-first_unreached c =
+pub overflow_add-number-in-Some-first_unreached : goal.overflow_add-number-in-Some-first_unreached
+overflow_add-number-in-Some-first_unreached c =
     let ls = c.args.lines.now in
     let k = c.in-Some-first_unreached.number in
-    let i = line_found ls Unreached (not_entered (goal.at.overflow_add-number_in-Some-first_unreached c).In-default) (λ t. t) k (unreached ls (shape_in c.graph_of-graph.result) (Some k) c.graph_of-graph.ensures c.in-Some-first_unreached.ensures) in
+    let i = line_found ls Unreached (not_entered (goal.at.overflow_add-number-in-Some-first_unreached c).In_default) (λ t. t) k (unreached ls (shape_in c.graph_of-graph.result) (Some k) c.graph_of-graph.ensures c.in-Some-first_unreached.ensures) in
     omega (arith, c.requires.few)
 
 pub returns-in-Some-first_unreached : goal.returns-in-Some-first_unreached
 returns-in-Some-first_unreached c =
     let ls = c.args.lines.now in
     let k = c.in-Some-first_unreached.number in
-    refuse ls Unreached (not_entered (goal.at.returns-in-Some-first_unreached c).In-default) (λ t. t) k (unreached ls (shape_in c.graph_of-graph.result) (Some k) c.graph_of-graph.ensures c.in-Some-first_unreached.ensures)
+    refuse ls Unreached (not_entered (goal.at.returns-in-Some-first_unreached c).In_default) (λ t. t) k (unreached ls (shape_in c.graph_of-graph.result) (Some k) c.graph_of-graph.ensures c.in-Some-first_unreached.ensures)
     c.on-in-Some-first_unreached.result c.on-in-Some-first_unreached.ensures
 
-pub overflow_add-number_in-Some-first_stuck : goal.overflow_add-number_in-Some-first_stuck
-overflow_add-number_in-Some-first_stuck c =
+pub overflow_add-number-in-Some-first_stuck : goal.overflow_add-number-in-Some-first_stuck
+overflow_add-number-in-Some-first_stuck c =
     let ls = c.args.lines.now in
     let k = c.in-Some-first_stuck.number in
-    let at = goal.at.overflow_add-number_in-Some-first_stuck c in
-    let i = line_found ls Stuck (all_reached at.In-default-first_unreached (not_entered at.In-default)) (λ t. t) k (stuck ls (shape_in c.new-turned.result.of) (Some k) (turned_shape at.After-new-turned) c.in-Some-first_stuck.ensures) in
+    let at = goal.at.overflow_add-number-in-Some-first_stuck c in
+    let i = line_found ls Stuck (all_reached at.In_default-first_unreached (not_entered at.In_default)) (λ t. t) k (stuck ls (shape_in c.new-turned.result.of) (Some k) (turned_shape at.After-new-turned) c.in-Some-first_stuck.ensures) in
     omega (arith, c.requires.few)
 
 pub returns-in-Some-first_stuck : goal.returns-in-Some-first_stuck
@@ -77,7 +77,7 @@ returns-in-Some-first_stuck c =
     let ls = c.args.lines.now in
     let k = c.in-Some-first_stuck.number in
     let at = goal.at.returns-in-Some-first_stuck c in
-    refuse ls Stuck (all_reached at.In-default-first_unreached (not_entered at.In-default)) (λ t. t) k (stuck ls (shape_in c.new-turned.result.of) (Some k) (turned_shape at.After-new-turned) c.in-Some-first_stuck.ensures)
+    refuse ls Stuck (all_reached at.In_default-first_unreached (not_entered at.In_default)) (λ t. t) k (stuck ls (shape_in c.new-turned.result.of) (Some k) (turned_shape at.After-new-turned) c.in-Some-first_stuck.ensures)
     c.on-in-Some-first_stuck.result c.on-in-Some-first_stuck.ensures
 
 pub returns : goal.returns
@@ -85,5 +85,5 @@ returns c =
     let ls = c.args.lines.now in
     let at = goal.at.returns c in (
       ap shape_in c.back.ensures ∙ turned_shape at.After-new-turned,
-      go_on ls Stuck (all_reached at.In-default-first_unreached (not_entered at.In-default)) (λ t. t) (stuck ls (shape_in c.new-turned.result.of) None (turned_shape at.After-new-turned) c.in_default-first_stuck.ensures),
+      go_on ls Stuck (all_reached at.In_default-first_unreached (not_entered at.In_default)) (λ t. t) (stuck ls (shape_in c.new-turned.result.of) None (turned_shape at.After-new-turned) c.in_default-first_stuck.ensures),
     )
