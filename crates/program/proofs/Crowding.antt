@@ -1,5 +1,5 @@
 -- Expressions that are numbered one after another. Assumes nothing.
-use Rattle.std.proofs.Common.{◌≡◌, ℕ, suc, ◌+◌, ◌<◌, ◌≤◌, Bool, true, false, ◌⊎◌, List, [], ◌∷◌, ◌++◌, length, get_or, take, ℤ, is_err, Some, None, Ok, Err, Result, sym, ap, ◌∙◌, subst, inl, inr, append-nil, add-one, arith, length-append, length-take}
+use Rattle.std.proofs.Common.{◌≡◌, ℕ, suc, ◌+◌, ◌<◌, Bool, true, false, ◌⊎◌, List, [], ◌∷◌, ◌++◌, length, get_or, take, ℤ, is_err, Some, None, Result, sym, ap, ◌∙◌, inl, inr, append-nil, add-one, arith, length-append, length-take}
 use Rattle.line.specs.declared.syntax.Line.{Line}
 use Rattle.numbering.specs.declared.list.NoRoom.{NoRoom}
 use Rattle.numbering.specs.declared.list.Numbering.{Numbering}

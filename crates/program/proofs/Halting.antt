@@ -1,5 +1,5 @@
 -- The line that halts, among the lines so far. Assumes nothing.
-use Rattle.std.proofs.Common.{◌≡◌, ℕ, zero, suc, ◌+◌, ◌<◌, ◌≤◌, Bool, true, false, cond, ◌&&◌, ◌||◌, T, [], ◌∷◌, ◌++◌, length, get_or, take, ℤ, is_some, Some, None, Option, sym, refl, ap, ◌∙◌, subst, le_of_lt, arith, lit<}
+use Rattle.std.proofs.Common.{◌≡◌, ℕ, zero, suc, ◌+◌, ◌<◌, ◌≤◌, Bool, true, false, cond, ◌&&◌, ◌||◌, T, [], ◌∷◌, ◌++◌, length, get_or, take, ℤ, is_some, Some, None, Option, sym, refl, ap, ◌∙◌, subst, le_of_lt, arith}
 use Rattle.std.proofs.lemmas.List.{take_all, length-take-le}
 use Rattle.std.proofs.lemmas.Bool.{false≢true}
 use Rattle.numbering.specs.Numbers.{unless}
@@ -8,12 +8,12 @@ use Rattle.line.specs.declared.syntax.Line.{Line}
 use Rattle.fault.specs.declared.Fault.{Fault}
 use Rattle.fault.specs.declared.Kind.TheVariants.{NotOneHalt}
 use Rattle.fault.specs.Table.{plain_fault}
-use Rattle.wellformed.specs.Faults.{Halts, Fits, Clean, First}
-use Rattle.wellformed.specs.Lines.{halting, exit_of}
+use Rattle.wellformed.specs.Faults.{Halts, Fits, Clean}
+use Rattle.wellformed.specs.Lines.{halting}
 use Rattle.wellformed.proofs.Judged.{named_in, pass}
 use Rattle.wellformed.proofs.Lined.{at_read}
 use Rattle.program.specs.Asked.{asks, halts_at}
-use Rattle.program.specs.Refusals.{Refused, LowestLine}
+use Rattle.program.specs.Refusals.{Refused}
 use Rattle.program.specs.Written.{Lines, exit_line}
 use Rattle.program.proofs.Scanning.{take_step}
 

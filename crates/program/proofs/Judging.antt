@@ -1,11 +1,10 @@
 -- From what a check finds to the answer. Assumes nothing.
-use Rattle.std.proofs.Common.{◌≡◌, ℕ, zero, suc, ◌+◌, ◌<◌, ◌≤◌, Bool, true, false, cond, not, ◌||◌, T, eqb, List, [], ◌∷◌, length, ℤ, Some, None, Option, sym, refl, ap, ◌∙◌, subst, ap₂, inl, inr, arith, lit<}
+use Rattle.std.proofs.Common.{◌≡◌, ℕ, zero, suc, ◌+◌, ◌<◌, Bool, true, false, cond, not, ◌||◌, T, eqb, List, [], ◌∷◌, length, Some, None, Option, sym, refl, ap, ◌∙◌, subst, ap₂, arith, lit<}
 use Rattle.std.proofs.lemmas.Bool.Decides.{nat_tests}
 use Rattle.fault.specs.declared.Fault.{Fault}
 use Rattle.fault.specs.Table.{plain_fault}
 use Rattle.graph.specs.Paths.{member}
 use Rattle.line.specs.declared.label.Label.{Label}
-use Rattle.line.specs.declared.syntax.Line.{Line}
 use Rattle.line.specs.Words.{same_label}
 use Rattle.numbering.specs.Numbers.{known, number, number_in}
 use Rattle.reach.specs.Lowest.{Lowest}

@@ -1,5 +1,5 @@
 -- Labels that are numbered one after another. Assumes nothing.
-use Rattle.std.proofs.Common.{◌≡◌, ℕ, suc, ◌+◌, ◌<◌, ◌≤◌, true, false, T, ◌⊎◌, List, [], ◌∷◌, ◌++◌, length, get_or, take, ℤ, Ok, Err, Result, sym, ap, ◌∙◌, subst, inl, inr, le_of_lt, arith}
+use Rattle.std.proofs.Common.{◌≡◌, ℕ, suc, ◌+◌, ◌<◌, ◌≤◌, T, ◌⊎◌, List, [], ◌∷◌, ◌++◌, length, get_or, take, ℤ, Ok, Result, sym, ap, ◌∙◌, subst, inl, inr, le_of_lt, arith}
 use Rattle.std.proofs.lemmas.List.{map_push, length-map, length-take-le}
 use Rattle.line.specs.declared.label.Label.{Label}
 use Rattle.line.specs.declared.syntax.Line.{Line}

@@ -1,5 +1,5 @@
 -- Edges that are put one behind another. Assumes nothing.
-use Rattle.std.proofs.Common.{◌≡◌, ℕ, zero, suc, ◌+◌, ◌-◌, ◌<◌, ◌≤◌, Bool, true, false, cond, not, ◌&&◌, ◌||◌, T, List, [], ◌∷◌, ◌++◌, map, length, get_or, take, set, ℤ, Some, None, Option, sym, refl, ap, ◌∙◌, subst, ap₂, append_assoc, le_of_lt, arith}
+use Rattle.std.proofs.Common.{◌≡◌, ℕ, zero, suc, ◌+◌, ◌<◌, ◌≤◌, Bool, true, false, cond, not, ◌&&◌, ◌||◌, T, List, [], ◌∷◌, ◌++◌, length, get_or, take, set, ℤ, Some, None, Option, sym, refl, ap, ◌∙◌, subst, append_assoc, le_of_lt, arith}
 use Rattle.std.proofs.lemmas.List.{take_more, take_more_set, map_push, length-take-le}
 use Rattle.std.proofs.lemmas.Bool.{and_parts}
 use Rattle.graph.specs.declared.edge.Edge.{Edge}

@@ -1,7 +1,10 @@
 // How a program is sealed, and what it tells.
-ghost use Rattle.std.specs.Prelude.{◌≡◌, ◌≤◌, true, map, length, IfOk, vec_len, vec_capacity};
+ghost use Rattle.std.specs.Prelude.{◌≡◌, ◌≤◌, true, [], map, length, Ok, IfOk, vec_len, vec_capacity, codes};
 ghost use Rattle.draft.specs.Plain.{lines_of as draftLines};
+ghost use Rattle.graph.specs.Edges.{edge_shape};
 ghost use Rattle.graph.specs.Made.{shape_in};
+ghost use Rattle.line.specs.declared.syntax.Statement.TheVariants.{Halt};
+ghost use Rattle.line.specs.Readings.{reading};
 ghost use Rattle.wellformed.specs.Faults.{Clean};
 ghost use Rattle.wellformed.specs.Lines.{graph_of};
 ghost use Rattle.program.specs.Asked.{asks, computes};
@@ -28,7 +31,10 @@ const FILLER: Expression = Expression {
     second: Operand::Num(0),
 };
 
-fn end_halt() -> Line {
+fn end_halt() -> Line
+    ensures reads { reading (codes "end halt") ≡ Ok result }
+    ensures halt { result.statement ≡ Halt }
+{
     match read(b"end halt") {
         Ok(line) => line,
         Err(_) => unreachable(),
@@ -36,7 +42,9 @@ fn end_halt() -> Line {
 }
 
 // A graph of one node.
-fn lone_node() -> EdgeGraph {
+fn lone_node() -> EdgeGraph
+    ensures { shape_in result ≡ edge_shape 1 0 0 [] }
+{
     match EdgeGraph::new(1, 0, 0, &[]) {
         Some(graph) => graph,
         None => unreachable(),

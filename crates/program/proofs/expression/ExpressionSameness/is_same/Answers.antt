@@ -1,4 +1,4 @@
-use Rattle.std.proofs.Common.{◌≡◌, Bool, true, cond, Decides, rules, sym, ◌∙◌, subst}
+use Rattle.std.proofs.Common.{◌≡◌, Bool, Decides, rules, sym, ◌∙◌, subst}
 use denote.Enum.Bare.{same_true}
 use Rattle.line.specs.contracts.syntax.Operator.{the_type}
 use Rattle.program.specs.Sames.{same_expression}

@@ -1,6 +1,5 @@
-use Rattle.std.proofs.Common.{◌≡◌, ℕ, ◌+◌, ◌<◌, true, List, ◌++◌, length, take, sym, ap, ◌∙◌, subst, arith}
+use Rattle.std.proofs.Common.{◌≡◌, ℕ, ◌+◌, true, List, ◌++◌, length, take, ap, ◌∙◌, arith}
 use Rattle.std.proofs.lemmas.List.{take_all}
-use Rattle.graph.specs.declared.edge.Edge.{Edge}
 use Rattle.line.specs.declared.label.Label.{Label}
 use Rattle.numbering.specs.Lists.{items_of}
 use Rattle.wellformed.specs.Lines.{fan}
