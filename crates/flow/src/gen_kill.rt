@@ -4,7 +4,7 @@ ghost use Rattle.facts.specs.Sets.{everything, common, either};
 ghost use Rattle.flow.specs.Heights.{sets_keep, sets_fall};
 
 use crate::problem::Problem;
-use facts::{Fact, Fact as _, Set64};
+use facts::{Fact, Set64};
 use graph::MOST_NODES;
 
 #[derive(Clone, Copy)]
@@ -24,7 +24,7 @@ fn at(sets: &[Set64], n: usize) -> Set64
     if n < sets.len() {
         sets[n]
     } else {
-        <Set64 as facts::Fact>::top()
+        <Set64 as Fact>::top()
     }
 }
 
