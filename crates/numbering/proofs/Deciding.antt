@@ -1,5 +1,6 @@
 -- A test that decides equality is one of sameness. Assumes nothing.
 use Rattle.std.proofs.Common.{◌≡◌, Bool, T, Decides, sym, refl, ◌∙◌, subst}
+use Rattle.std.specs.Cmp.{IsEquivalence}
 use Rattle.numbering.specs.Numbers.{Laws}
 use Rattle.numbering.proofs.Bools.{true_of}
 
@@ -16,3 +17,11 @@ module _ {A : Type 0} (same : A → A → Bool) (decides : (a b : A) → Decides
     symmetric = λ a b t. alike b a (sym (equal a b t));
     transitive = λ a b c t u. alike a c (equal a b t ∙ equal b c u);
   }
+
+-- so is an equivalence
+pub equivalence_laws : {A : Type 0} {same : A → A → Bool} → IsEquivalence same → Laws same
+equivalence_laws {same = same} e = record {
+  reflexive = λ a. subst T (sym (e.refl a)) tt;
+  symmetric = λ a b t. subst T (e.symm a b) t;
+  transitive = λ a b c t u. subst T (sym (e.congr a b c (true_of (same a b) t))) u;
+}

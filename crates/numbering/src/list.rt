@@ -1,9 +1,7 @@
 // A list that gives each different element the number of its first appearance.
-ghost use Rattle.std.specs.Prelude.{◌≡◌, [], length};
+ghost use Rattle.std.specs.Prelude.{◌≡◌, [], length, position};
 ghost use Rattle.numbering.specs.Lists.{items_of, room_of, Answered, ByAppearance};
 ghost use Rattle.numbering.specs.Numbers.{number_in, entered};
-
-use crate::sameness::Sameness;
 
 // There is no place left for a new element.
 #[derive(Clone, Copy, PartialEq, Eq, Debug)]
@@ -16,19 +14,14 @@ pub struct Numbering<'a, K> {
     len: usize,
 }
 
-// The place of the first element that is the same.
-fn position<K: Sameness>(items: &[K], element: &K) -> Option<usize>
-    ensures { result ≡ number_in K.Sameness.same element.now items.now }
+// The place of the first element that is equal.
+fn place<K: Eq>(items: &[K], element: &K) -> Option<usize>
+    ensures { result ≡ position (K.PartialEq.eq element.now) items.now }
 {
-    for (place, item) in items.iter().enumerate() {
-        if element.is_same(item) {
-            return Some(place);
-        }
-    }
-    None
+    items.iter().position(|item| element == item)
 }
 
-impl<'a, K: Sameness + Copy> Numbering<'a, K> {
+impl<'a, K: Eq + Copy> Numbering<'a, K> {
     // A list without elements, with room for as many as the slice has places.
     pub fn new(slots: &'a mut [K]) -> Numbering<'a, K>
         ensures items { items_of result ≡ [] }
@@ -51,15 +44,15 @@ impl<'a, K: Sameness + Copy> Numbering<'a, K> {
 
     // The number of the element, if it has one.
     pub fn find(&self, element: &K) -> Option<usize>
-        ensures { result ≡ number_in K.Sameness.same element.now (items_of self.now) }
+        ensures { result ≡ number_in K.PartialEq.eq element.now (items_of self.now) }
     {
-        position(self.items(), element)
+        place(self.items(), element)
     }
 
     // The number of the element: the one that it has, or the next one if it is new.
     pub fn number(&mut self, element: K) -> Result<usize, NoRoom>
-        ensures value { Answered (entered K.Sameness.same (room_of self.old) element (items_of self.old)) result (items_of self.new) }
-        ensures appearance { ByAppearance K.Sameness.same (room_of self.old) element (items_of self.old) result (items_of self.new) }
+        ensures value { Answered (entered K.PartialEq.eq (room_of self.old) element (items_of self.old)) result (items_of self.new) }
+        ensures appearance { ByAppearance K.PartialEq.eq (room_of self.old) element (items_of self.old) result (items_of self.new) }
         ensures room { room_of self.new ≡ room_of self.old }
     {
         if let Some(number) = self.find(&element) {

@@ -2,12 +2,13 @@ use Rattle.std.proofs.Common.{◌≡◌, length, sym, refl, ap, le_of_lt, length
 use Rattle.std.proofs.lemmas.List.{take_all, length-take-le, take_more_set}
 use Rattle.numbering.specs.Lists.{items_of, room_of}
 use Rattle.numbering.specs.Numbers.{Laws}
+use Rattle.numbering.proofs.Deciding.{equivalence_laws}
 use Rattle.numbering.proofs.Entering.{known_answer, known_appearance, new_answer, new_appearance, full_answer, is_new}
 use Rattle.numbering.proofs.list.Numbering.number.Given as given
 use Rattle.numbering.proofs.list.Numbering.number.Goals as goal
 
-laws : (g : given.Over) → Laws g.K.Sameness.same
-laws g = record { reflexive = g.met.K.Sameness.reflexive; symmetric = g.met.K.Sameness.symmetric; transitive = g.met.K.Sameness.transitive }
+laws : (g : given.Over) → Laws g.K.PartialEq.eq
+laws g = equivalence_laws g.met.K.Eq.laws
 
 pub returns-in-Some : goal.returns-in-Some
 returns-in-Some g c =
