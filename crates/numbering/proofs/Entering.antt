@@ -1,9 +1,9 @@
 -- What is answered to one element. Assumes nothing.
-use Rattle.std.proofs.Common.{◌≡◌, ℕ, ◌<◌, ◌≤◌, Bool, true, false, cond, T, ltb, List, [], ◌∷◌, ◌++◌, length, Some, None, Ok, Err, Result, sym, refl, ap, ◌∙◌, subst, le_refl, arith}
-use Rattle.std.proofs.lemmas.Bool.{lt-ltb, le-ltb, ltb-true, ltb-false}
+use Rattle.std.proofs.Common.{◌≡◌, ℕ, ◌<◌, ◌≤◌, Bool, true, false, cond, T, ltb, List, [], ◌∷◌, ◌++◌, length, Some, None, Ok, Err, Result, sym, refl, ap, ◌∙◌, subst, arith}
+use Rattle.std.proofs.lemmas.Bool.{ltb-true, ltb-false}
 use Rattle.numbering.specs.declared.list.NoRoom.{NoRoom}
 use Rattle.numbering.specs.Lists.{Answered, ByAppearance}
-use Rattle.numbering.specs.Numbers.{Laws, Entered, append_unless, known, number, number_in, entered, firsts}
+use Rattle.numbering.specs.Numbers.{Laws, append_unless, known, number, number_in, entered, firsts}
 use Rattle.numbering.proofs.Appearance.{known_firsts, number_firsts, new_number, firsts_more}
 
 module _ {A : Type 0} {same : A → A → Bool} (laws : Laws same) (room : ℕ) (a : A) (l : List A) where
@@ -22,19 +22,7 @@ module _ {A : Type 0} {same : A → A → Bool} (laws : Laws same) (room : ℕ) 
       by true q e = absurd (let z : ◌≡◌ {A = ℕ} 0 1 = cc in omega arith)
       by false q e = q
 
-  abbrev answer : Bool → Bool → Entered A
-  answer k r =
-      cond k (record { answer = Ok (number same a l); items = l })
-      (cond r (record { answer = Ok (length l); items = l ++ (a ∷ []) })
-      (record { answer = Err (record {}); items = l }))
-
   module _ (n : ℕ) (e : Some n ≡ number_in same a l) where
-    pub known_answer : Answered (entered same room a l) (Ok n) l
-    known_answer =
-        let k = is_known n e in
-        let q = ap (λ b. answer b (ltb (length l) room)) k.0 in
-        (ap Ok k.1 ∙ sym (ap (λ (o : Entered A). o.answer) q), sym (ap (λ (o : Entered A). o.items) q))
-
     pub known_appearance : ByAppearance same room a l (Ok n) l
     known_appearance xs f =
         let k = is_known n e in
@@ -44,22 +32,12 @@ module _ {A : Type 0} {same : A → A → Bool} (laws : Laws same) (room : ℕ) 
         )
 
   module _ (e : None ≡ number_in same a l) where
-    pub new_answer : (n : ℕ) (after : List A) → n ≡ length l → n < room → after ≡ l ++ (a ∷ []) → Answered (entered same room a l) (Ok n) after
-    new_answer n after s i f =
-        let q = ap (λ b. answer b (ltb (length l) room)) (is_new e) ∙ ap (answer false) (lt-ltb (length l) room (subst (λ (k : ℕ). k < room) s i)) in
-        (ap Ok s ∙ sym (ap (λ (o : Entered A). o.answer) q), f ∙ sym (ap (λ (o : Entered A). o.items) q))
-
     pub new_appearance : (n : ℕ) (after : List A) → n ≡ length l → after ≡ l ++ (a ∷ []) → ByAppearance same room a l (Ok n) after
     new_appearance n after s f xs g =
         let q : known same a (firsts same xs) ≡ false = sym (ap (known same a) g) ∙ is_new e in (
           f ∙ ap (λ (k : List A). k ++ (a ∷ [])) g ∙ sym (firsts_more laws a xs ∙ ap (λ b. append_unless b a (firsts same xs)) q),
           s ∙ ap length g ∙ new_number laws a xs (λ t. subst T (sym (known_firsts laws a xs) ∙ q) t),
         )
-
-    pub full_answer : (r : NoRoom) → length l ≡ room → Answered (entered same room a l) (Err r) l
-    full_answer r s =
-        let q = ap (λ b. answer b (ltb (length l) room)) (is_new e) ∙ ap (answer false) (le-ltb (length l) room (subst (λ (k : ℕ). k ≤ length l) s (le_refl (length l)))) in
-        (sym (ap (λ (o : Entered A). o.answer) q), sym (ap (λ (o : Entered A). o.items) q))
 
 -- the three ways that an element can be answered
 pub data Way {A : Type 0} (same : A → A → Bool) (room : ℕ) (a : A) (l : List A) (r : Result ℕ NoRoom) (after : List A) : Type 0 where

@@ -1,16 +1,7 @@
--- What a numbering list holds, and what it answers. Assumes nothing.
-use Rattle.std.specs.Prelude.{◌≡◌, ℕ, Bool, false, List, [], ◌∷◌, ◌++◌, length, take, Ok, Err, Result}
+-- What a numbering list answers. Assumes nothing.
+use Rattle.std.specs.Prelude.{◌≡◌, ℕ, Bool, false, List, [], ◌∷◌, ◌++◌, length, Ok, Err, Result}
 use Rattle.numbering.specs.declared.list.NoRoom.{NoRoom}
-use Rattle.numbering.specs.declared.list.Numbering.{Numbering}
 use Rattle.numbering.specs.Numbers.{Entered, known, firsts, before}
-
--- the elements, in the order of their numbers
-abbrev pub items_of : {K : Type 0} → Numbering K → List K
-items_of n = take n.len n.slots.now
-
--- how many elements there can be
-abbrev pub room_of : {K : Type 0} → Numbering K → ℕ
-room_of n = length n.slots.now
 
 abbrev pub Answered : {A : Type 0} → Entered A → Result ℕ NoRoom → List A → Type 0
 Answered e r after = (r ≡ e.answer) × (after ≡ e.items)

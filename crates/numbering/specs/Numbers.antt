@@ -8,6 +8,11 @@ pub record Laws {A : Type 0} (same : A → A → Bool) : Type 0 where
   pub symmetric : (a b : A) → T (same a b) → T (same b a)
   pub transitive : (a b c : A) → T (same a b) → T (same b c) → T (same a c)
 
+-- what a numbering list holds: its elements in the order of their numbers, and how many there can be
+pub record Numbered (A : Type 0) : Type 0 where
+  pub items : List A
+  pub room : ℕ
+
 -- 0 if b, else one more
 abbrev pub unless : Bool → ℕ → ℕ
 unless true n = 0

@@ -1,7 +1,9 @@
 // A list that gives each different element the number of its first appearance.
 ghost use Rattle.std.specs.Prelude.{◌≡◌, [], length, position};
-ghost use Rattle.numbering.specs.Lists.{items_of, room_of, Answered, ByAppearance};
+ghost use Rattle.numbering.specs.Lists.{Answered, ByAppearance};
 ghost use Rattle.numbering.specs.Numbers.{number_in, entered};
+
+use std::marker::Model;
 
 // There is no place left for a new element.
 #[derive(Clone, Copy, PartialEq, Eq, Debug)]
@@ -14,6 +16,17 @@ pub struct Numbering<'a, K> {
     len: usize,
 }
 
+impl<'a, K> Model for Numbering<'a, K> {
+    ghost use Rattle.std.specs.Prelude.{◌≤◌, length, take};
+    ghost use Rattle.numbering.specs.Numbers.{Numbered};
+
+    ghost Value = { Numbered K };
+
+    ghost view = { λ n. record { items = take n.len n.slots.now; room = length n.slots.now } };
+
+    ghost invariant = { λ n. n.len ≤ length n.slots.now };
+}
+
 // The place of the first element that is equal.
 fn place<K: Eq>(items: &[K], element: &K) -> Option<usize>
     ensures { result ≡ position (K.PartialEq.eq element.now) items.now }
@@ -24,36 +37,32 @@ fn place<K: Eq>(items: &[K], element: &K) -> Option<usize>
 impl<'a, K: Eq + Copy> Numbering<'a, K> {
     // A list without elements, with room for as many as the slice has places.
     pub fn new(slots: &'a mut [K]) -> Numbering<'a, K>
-        ensures items { items_of result ≡ [] }
-        ensures room { room_of result ≡ length slots.old }
+        ensures items { result.items ≡ [] }
+        ensures room { result.room ≡ length slots.old }
     {
         Numbering { slots, len: 0 }
     }
 
     // The elements in the order of their numbers.
     pub fn items(&self) -> &[K]
-        ensures { result.now ≡ items_of self.now }
+        ensures { result.now ≡ self.now.items }
     {
-        let slots = &*self.slots;
-        if self.len < slots.len() {
-            &slots[0..self.len]
-        } else {
-            slots
-        }
+        &self.slots[..self.len]
     }
 
     // The number of the element, if it has one.
+    #[tactic(auto, using(crate::proofs::Positions::position_is))]
     pub fn find(&self, element: &K) -> Option<usize>
-        ensures { result ≡ number_in K.PartialEq.eq element.now (items_of self.now) }
+        ensures { result ≡ number_in K.PartialEq.eq element.now self.now.items }
     {
         place(self.items(), element)
     }
 
     // The number of the element: the one that it has, or the next one if it is new.
     pub fn number(&mut self, element: K) -> Result<usize, NoRoom>
-        ensures value { Answered (entered K.PartialEq.eq (room_of self.old) element (items_of self.old)) result (items_of self.new) }
-        ensures appearance { ByAppearance K.PartialEq.eq (room_of self.old) element (items_of self.old) result (items_of self.new) }
-        ensures room { room_of self.new ≡ room_of self.old }
+        ensures value { Answered (entered K.PartialEq.eq self.old.room element self.old.items) result self.new.items }
+        ensures appearance { ByAppearance K.PartialEq.eq self.old.room element self.old.items result self.new.items }
+        ensures room { self.new.room ≡ self.old.room }
     {
         if let Some(number) = self.find(&element) {
             return Ok(number);

@@ -1,42 +1,23 @@
-use Rattle.std.proofs.Common.{◌≡◌, length, sym, refl, ap, le_of_lt, length-set}
-use Rattle.std.proofs.lemmas.List.{take_all, length-take-le, take_more_set}
-use Rattle.numbering.specs.Lists.{items_of, room_of}
-use Rattle.numbering.specs.Numbers.{Laws}
+use Rattle.std.proofs.Common.{◌≡◌, List, [], ◌∷◌, ◌++◌, take, length, ap, sym, ◌∙◌, le_of_lt}
+use Rattle.std.proofs.lemmas.List.{length-take-le, take_more_set}
+use Rattle.numbering.specs.Numbers.{Laws, Numbered}
 use Rattle.numbering.proofs.Deciding.{equivalence_laws}
-use Rattle.numbering.proofs.Entering.{known_answer, known_appearance, new_answer, new_appearance, full_answer, is_new}
+use Rattle.numbering.proofs.Entering.{known_appearance, new_appearance}
 use Rattle.numbering.proofs.list.Numbering.number.Given as given
 use Rattle.numbering.proofs.list.Numbering.number.Goals as goal
 
 laws : (g : given.Over) → Laws g.K.PartialEq.eq
 laws g = equivalence_laws g.met.K.Eq.laws
 
-pub returns-in-Some : goal.returns-in-Some
-returns-in-Some g c =
-    let s = c.args.self.now in
-    record {
-      value = known_answer (laws g) (room_of s) c.args.element (items_of s) c.in-Some.number c.in-Some.ensures;
-      appearance = known_appearance (laws g) (room_of s) c.args.element (items_of s) c.in-Some.number c.in-Some.ensures;
-      room = refl {a = room_of s};
-    }
+pub returns-in-Some-clause-appearance : goal.returns-in-Some-clause-appearance
+returns-in-Some-clause-appearance g c = known_appearance (laws g) c.args.self.now.room c.args.element c.args.self.now.items c.in-Some.number c.in-Some.ensures
 
-pub returns-then-number-self : goal.returns-then-number-self
-returns-then-number-self g c =
-    let s = c.args.self.now in
-    let full : length (items_of s) ≡ room_of s = ap length (take_all s.len s.slots.now c.if-number-self.true) in
-    record {
-      value = full_answer (laws g) (room_of s) c.args.element (items_of s) c.in_default.ensures _ full;
-      appearance = (is_new (laws g) (room_of s) c.args.element (items_of s) c.in_default.ensures, full, refl);
-      room = refl {a = room_of s};
-    }
-
-pub returns : goal.returns
-returns g c =
-    let s = c.args.self.now in
+pub returns-clause-appearance : goal.returns-clause-appearance
+returns-clause-appearance g c =
+    let n = c.self.inside.len in
+    let s = c.self.inside.slots.now in
     let i = c.if-number-self.false in
-    let size : s.len ≡ length (items_of s) = sym (length-take-le s.len s.slots.now (le_of_lt i)) in
-    let more = take_more_set s.slots.now s.len c.args.element i in
-    record {
-      value = new_answer (laws g) (room_of s) c.args.element (items_of s) c.in_default.ensures s.len _ size i more;
-      appearance = new_appearance (laws g) (room_of s) c.args.element (items_of s) c.in_default.ensures s.len _ size more;
-      room = length-set s.slots.now s.len c.args.element;
-    }
+    let held : take n s ≡ c.args.self.now.items = ap (λ (v : Numbered _). v.items) c.self.view_is in
+    let size : n ≡ length c.args.self.now.items = sym (length-take-le n s (le_of_lt i)) ∙ ap length held in
+    let more = take_more_set s n c.args.element i ∙ ap (λ (l : List _). l ++ (c.args.element ∷ [])) held in
+    new_appearance (laws g) c.args.self.now.room c.args.element c.args.self.now.items c.in_default.ensures n _ size more
