@@ -1,6 +1,6 @@
 -- Sets as bits: extensionality, the laws of `&`, and members. Assumes nothing.
-use Rattle.std.specs.Prelude.{◌≡◌, ℕ, zero, suc, ◌+◌, ◌-◌, ◌*◌, ◌/◌, ◌%◌, ◌^◌, ◌<◌, ◌≤◌, min, max, false, ◌&&◌, ◌||◌, T, ◌==◌, nat_eq, nat_lt}
-use Rattle.std.proofs.Common.{sym, ap, ◌∙◌, subst, inl, inr, mod-eq_of_lt, pow-suc, one-mul, lt_of_lt_of_le, arith, eqb→eq, pow_mono}
+use Rattle.std.specs.Prelude.{◌≡◌, ℕ, zero, suc, ◌+◌, ◌-◌, ◌*◌, ◌/◌, ◌%◌, ◌^◌, ◌<◌, ◌≤◌, min, max, false, ◌&&◌, ◌||◌, ◌==◌, nat_eq, nat_lt}
+use Rattle.std.proofs.Common.{sym, ap, ◌∙◌, subst, inl, inr, mod-eq_of_lt, pow-suc, one-mul, lt_of_lt_of_le, arith, pow_mono}
 use mathlib.Core.HLevel.{is_prop→PathP}
 use Rattle.std.proofs.Math.Bridge.{le_prop}
 use Rattle.std.proofs.Math.Nat.{div-eq_of_lt}
@@ -9,16 +9,13 @@ use Rattle.std.proofs.lemmas.Nat.{pow_pos, pow-add, pow_below, shl-shr, shr-shr,
 use Rattle.std.proofs.lemmas.Bool.{cases_order, eq-eqb, ne_eqb, lt-ltb, le-ltb}
 use Rattle.std.proofs.lemmas.Bool.Decides.{nat_tests}
 use Rattle.facts.specs.declared.set.Set64.{Set64}
-use Rattle.facts.specs.Sets.{everything, common, either, same_set, has}
+use Rattle.facts.specs.Sets.{everything, common, either, has}
 
 pub set_ext : (a b : Set64) → a.bits ≡ b.bits → a ≡ b
 set_ext a b e = λ i. record {
   bits = e i;
   ok = is_prop→PathP (λ j. e j < 2 ^ 64) (λ j. le_prop) a.ok b.ok i;
 }
-
-pub same_equal : (a b : Set64) → T (same_set a b) → a ≡ b
-same_equal a b t = set_ext a b (eqb→eq a.bits b.bits t)
 
 and_half : (a b : ℕ) → bit_and a b / 2 ≡ bit_and (a / 2) (b / 2)
 and_half a b = and_shr a b 1

@@ -19,9 +19,6 @@ common a b = record { bits = bit_and a.bits b.bits; ok = lt_of_le_of_lt (and_le_
 abbrev pub either : Set64 → Set64 → Set64
 either a b = record { bits = bit_or a.bits b.bits; ok = or_lt 64 a.bits b.bits a.ok b.ok }
 
-abbrev pub same_set : Set64 → Set64 → Bool
-same_set a b = a.bits == b.bits
-
 -- the set of k alone, if k is below 64
 abbrev pub Singled : ℕ → Option Set64 → Type 0
 Singled k (Some s) = (k < 64) × ((j : ℕ) → has s j ≡ (j == k))

@@ -1,10 +1,8 @@
 // Kinds of facts: a meet with a top.
 ghost use Rattle.std.specs.Prelude.{◌≡◌, T};
 
-use numbering::Sameness;
-
 // A fact lies below another if their meet is the fact itself.
-pub trait Fact: Sameness + Copy {
+pub trait Fact: Eq + Copy {
     ghost top: { Self };
 
     ghost meet: { Self → Self → Self };
@@ -15,7 +13,7 @@ pub trait Fact: Sameness + Copy {
     // Same facts are equal.
     fn meet(self, other: Self) -> Self
         ensures value { result ≡ meet self other }
-        ensures exact { (a b : Self) → T (Self.Sameness.same a b) → a ≡ b };
+        ensures exact { (a b : Self) → T (Self.PartialEq.eq a b) → a ≡ b };
 
     ghost associative: { (a b c : Self) → meet (meet a b) c ≡ meet a (meet b c) };
 
