@@ -1,14 +1,12 @@
 -- How sets and depths fall, and what keeps their order. Assumes nothing.
-use Rattle.std.specs.Prelude.{◌≡◌, ℕ, zero, suc, ◌/◌, ◌%◌, ◌^◌, ◌<◌, ◌≤◌, min, Bool, true, false, ◌&&◌, ◌||◌, ◌⊎◌, List, length, ◌≢◌, bit_and, count_ones, refl}
+use Rattle.std.specs.Prelude.{◌≡◌, ℕ, zero, suc, ◌/◌, ◌%◌, ◌^◌, ◌<◌, ◌≤◌, min, Bool, true, false, ◌&&◌, ◌||◌, ◌⊎◌, List, length, Some, None, ◌≢◌, bit_and, count_ones, refl}
 use Rattle.std.proofs.Common.{sym, ap, subst, ◌∙◌, inl, inr, pow-suc, eq-or-lt_of_le, arith}
 use Rattle.std.proofs.Math.Nat.{min-le_left}
 use Rattle.std.specs.Int.Bits.{and_step, and_zero_l}
 use Rattle.std.proofs.lemmas.Nat.{and_shr, and_comm, ones-le}
 use Rattle.std.specs.Int.Count.{ones_step}
-use Rattle.facts.specs.declared.depth.Depth.{Depth}
-use Rattle.facts.specs.declared.depth.Depth.TheVariants.{At, Missing}
 use Rattle.facts.specs.declared.set.Set64.{Set64}
-use Rattle.facts.specs.Depths.{lesser, shallower}
+use Rattle.facts.specs.Depths.{Depth, lesser, shallower}
 use Rattle.facts.specs.Order.{Below, Fell}
 use Rattle.facts.specs.Sets.{common, either, has}
 use Rattle.facts.specs.Bitsets.{set_ext, has_common, has_either, by_members}
@@ -82,32 +80,32 @@ sets_keep a b k g l = by_members (common (either (common a k) g) (either (common
 -- depths fall by becoming smaller
 
 abbrev rank : Depth → ℕ
-rank (At l) = l.at
-rank Missing = 1001
+rank (Some l) = l.at
+rank None = 1001
 
 depth_less : (a b : Depth) → Below shallower a b → (a ≢ b) → rank a < rank b
-depth_less (At a) (At b) l ne =
+depth_less (Some a) (Some b) l ne =
     let e : (lesser a b).at ≡ a.at = ap rank l in
     let m = lesser_at a b in
     let le : a.at ≤ b.at = omega arith in
-    elim (eq-or-lt_of_le le) [ inl q ↦ absurd (ne (ap At (level_ext a b q))) | inr k ↦ k ]
-depth_less (At a) Missing l ne = omega (arith, a.ok)
-depth_less Missing (At b) l ne = let e : b.at ≡ 1001 = ap rank l in absurd (omega (arith, b.ok))
-depth_less Missing Missing l ne = absurd (ne refl)
+    elim (eq-or-lt_of_le le) [ inl q ↦ absurd (ne (ap Some (level_ext a b q))) | inr k ↦ k ]
+depth_less (Some a) None l ne = omega (arith, a.ok)
+depth_less None (Some b) l ne = let e : b.at ≡ 1001 = ap rank l in absurd (omega (arith, b.ok))
+depth_less None None l ne = absurd (ne refl)
 
 rank_most : (a : Depth) → rank a ≤ 1001
-rank_most (At a) = omega (arith, a.ok)
-rank_most Missing = omega arith
+rank_most (Some a) = omega (arith, a.ok)
+rank_most None = omega arith
 
 pub depths_fall : (a : Depth) (from : List Depth) → Fell shallower a from → length from ≤ 1001
 depths_fall a from f = let i = ranked shallower rank 1001 depth_less rank_most a from f in omega arith
 
 pub depths_keep : (a b : Depth) → Below shallower a b → Below shallower (further a) (further b)
-depths_keep (At a) (At b) e =
+depths_keep (Some a) (Some b) e =
     let q : (lesser a b).at ≡ a.at = ap rank e in
     let l = lesser_at a b in
     let m = lesser_at (deeper a) (deeper b) in
-    ap At (level_ext (lesser (deeper a) (deeper b)) (deeper a) (omega arith))
-depths_keep (At a) Missing e = refl
-depths_keep Missing (At b) e = let q : b.at ≡ 1001 = ap rank e in absurd (omega (arith, b.ok))
-depths_keep Missing Missing e = refl
+    ap Some (level_ext (lesser (deeper a) (deeper b)) (deeper a) (omega arith))
+depths_keep (Some a) None e = refl
+depths_keep None (Some b) e = let q : b.at ≡ 1001 = ap rank e in absurd (omega (arith, b.ok))
+depths_keep None None e = refl

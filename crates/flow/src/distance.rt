@@ -1,12 +1,22 @@
 // How many edges lead from the entry to each node, up to 1,000.
-ghost use Rattle.flow.specs.Distances.{at_entry, further};
+ghost use Rattle.std.specs.Prelude.{◌≡◌};
+ghost use Rattle.flow.specs.Distances.{at_entry, deeper, further};
 ghost use Rattle.flow.specs.Heights.{depths_keep, depths_fall};
 
 use crate::problem::Problem;
 use facts::{Depth, Level};
 
-#[derive(Clone, Copy)]
+#[derive(Clone, Copy, PartialEq, Eq, Debug)]
 pub struct Distance;
+
+// One more edge, as far as that matters.
+fn deeper(level: Level) -> Level
+    ensures { result ≡ deeper level }
+{
+    Level {
+        at: (level.at + 1).min(1000),
+    }
+}
 
 impl Problem for Distance {
     type Fact = Depth;
@@ -28,16 +38,10 @@ impl Problem for Distance {
     }
 
     fn at_entry(&self) -> Depth {
-        Depth::At(Level { at: 0 })
+        Some(Level { at: 0 })
     }
 
     fn step(&self, _n: usize, fact: Depth) -> Depth {
-        match fact {
-            Depth::At(level) => {
-                let at = if level.at < 1000 { level.at + 1 } else { 1000 };
-                Depth::At(Level { at })
-            }
-            Depth::Missing => Depth::Missing,
-        }
+        fact.map(deeper)
     }
 }

@@ -11,14 +11,12 @@ use crate::problem::Problem;
 use crate::queue::Queue;
 use facts::Fact;
 use graph::{Graph, MOST_NODES};
-use numbering::Sameness;
 
 // Whether b lies not above a, so that a falls when they are met.
 fn lowers<F: Fact>(a: F, b: F) -> bool
     ensures { MatchBool result (Below F.Fact.meet a b → ⊥) (Below F.Fact.meet a b) }
 {
-    let met = a.meet(b);
-    !met.is_same(&a)
+    a.meet(b) != a
 }
 
 // The meet, over the edges that lead to n, of the tail's step on the tail's fact.

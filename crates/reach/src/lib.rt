@@ -1,9 +1,7 @@
 // Which nodes of a graph the entry reaches, and which reach the exit, told by depths.
 #![tactic(auto)]
 
-ghost use Rattle.std.specs.Prelude.{ℕ, ◌≤◌, T, length, slice_index_or};
-ghost use Rattle.facts.specs.declared.depth.Depth.TheVariants.{Missing};
-ghost use Rattle.facts.specs.Depths.{missing_depth};
+ghost use Rattle.std.specs.Prelude.{ℕ, ◌≤◌, T, length, None, is_none, slice_index_or};
 ghost use Rattle.graph.specs.Paths.{Reaches};
 ghost use Rattle.reach.specs.Lowest.{Lowest};
 
@@ -14,14 +12,9 @@ use graph::{Graph, Reversed};
 // The lowest node without a depth.
 fn first_missing(depths: &[Depth], count: usize) -> Option<usize>
     requires { count ≤ length depths.now }
-    ensures { Lowest (λ n. T (missing_depth (slice_index_or depths.now n Missing)) → ⊥) count result }
+    ensures { Lowest (λ n. T (is_none (slice_index_or depths.now n None)) → ⊥) count result }
 {
-    for n in 0..count {
-        if depths[n].is_missing() {
-            return Some(n);
-        }
-    }
-    None
+    depths[..count].iter().position(Option::is_none)
 }
 
 // The lowest node that the entry cannot reach.
