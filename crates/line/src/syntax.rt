@@ -3,7 +3,7 @@
 use crate::label::Label;
 use crate::variable::Variable;
 
-#[derive(Clone, Copy)]
+#[derive(Clone, Copy, PartialEq, Eq, Debug)]
 pub enum Operand<N = i32> {
     Var(Variable),
     Num(N),
@@ -22,7 +22,7 @@ pub enum Operator {
 }
 
 // What a line does that has one successor.
-#[derive(Clone, Copy)]
+#[derive(Clone, Copy, PartialEq, Eq, Debug)]
 pub enum Action<N = i32> {
     Pass,
     // v = o
@@ -36,7 +36,7 @@ pub enum Action<N = i32> {
 }
 
 // What a line does, and the labels of its successors.
-#[derive(Clone, Copy)]
+#[derive(Clone, Copy, PartialEq, Eq, Debug)]
 pub enum Statement<N = i32> {
     Then(Action<N>, Label),
     // if o: the first label if o is not 0, else the second
@@ -44,7 +44,7 @@ pub enum Statement<N = i32> {
     Halt,
 }
 
-#[derive(Clone, Copy)]
+#[derive(Clone, Copy, PartialEq, Eq, Debug)]
 pub struct Line<N = i32> {
     pub label: Label,
     pub statement: Statement<N>,
