@@ -1,10 +1,9 @@
 -- Expressions that are numbered one after another. Assumes nothing.
-use Rattle.std.proofs.Common.{◌≡◌, ℕ, suc, ◌+◌, ◌<◌, Bool, true, false, ◌⊎◌, List, [], ◌∷◌, ◌++◌, length, get_or, take, ℤ, is_err, Some, None, Result, sym, ap, ◌∙◌, inl, inr, append-nil, add-one, arith, length-append, length-take}
+use Rattle.std.proofs.Common.{◌≡◌, ℕ, suc, ◌+◌, ◌<◌, Bool, true, false, ◌⊎◌, List, [], ◌∷◌, ◌++◌, length, get_or, take, ℤ, is_err, Some, None, Result, sym, ap, ◌∙◌, subst, inl, inr, append-nil, add-one, arith, length-append}
 use Rattle.line.specs.declared.syntax.Line.{Line}
 use Rattle.numbering.specs.declared.list.NoRoom.{NoRoom}
-use Rattle.numbering.specs.declared.list.Numbering.{Numbering}
-use Rattle.numbering.specs.Lists.{items_of, room_of, Answered}
-use Rattle.numbering.specs.Numbers.{append_unless, known, entered, firsts}
+use Rattle.numbering.specs.Lists.{Answered, ByAppearance}
+use Rattle.numbering.specs.Numbers.{Numbered, append_unless, known, entered, firsts}
 use Rattle.numbering.proofs.Appearance.{firsts_more}
 use Rattle.numbering.proofs.Entering.{way, known_way, new_way, full_way}
 use Rattle.wellformed.specs.Faults.{Crowded, Fits}
@@ -15,6 +14,8 @@ use Rattle.program.specs.Asked.{asks, computes}
 use Rattle.program.specs.Sames.{same_expression}
 use Rattle.program.specs.Written.{Lines, expressions_in}
 use Rattle.program.specs.SamesLemmas.{expression_laws}
+use Rattle.program.specs.contracts.expression.ExpressionPartialEq.TheImpl.{eq-value as equal}
+use Rattle.program.proofs.Equal.{equal_is_same}
 use Rattle.program.proofs.Scanning.{take_step}
 
 -- line k is numbered after those before it
@@ -39,25 +40,26 @@ module _ (ls : Lines) (k : ℕ) (x : Line ℤ) (i : k < length ls) (r : x ≡ ge
       let q = t.1 in
       omega arith
 
-  module _ (t : Numbering Expression) (held : items_of t ≡ expressions_in (take k ls)) where
-    pub quiet : computes x ≡ None → (items_of t ≡ expressions_in (take (k + 1) ls)) × (Fits asks ls Crowded (suc k) → ⊥)
+  module _ (t : Numbered Expression) (held : t.items ≡ expressions_in (take k ls)) where
+    pub quiet : computes x ≡ None → (t.items ≡ expressions_in (take (k + 1) ls)) × (Fits asks ls Crowded (suc k) → ⊥)
     quiet n = (held ∙ sym (same_expressions n), not_crowded (same_expressions n))
 
-    grown : (e : Expression) → computes x ≡ Some e → (b : Bool) → known same_expression e (items_of t) ≡ b → expressions_in (take (k + 1) ls) ≡ append_unless b e (items_of t)
-    grown e s b p = more_expressions e s ∙ ap (λ (l : List Expression). append_unless (known same_expression e l) e l) (sym held) ∙ ap (λ c. append_unless c e (items_of t)) p
+    grown : (e : Expression) → computes x ≡ Some e → (b : Bool) → known same_expression e t.items ≡ b → expressions_in (take (k + 1) ls) ≡ append_unless b e t.items
+    grown e s b p = more_expressions e s ∙ ap (λ (l : List Expression). append_unless (known same_expression e l) e l) (sym held) ∙ ap (λ c. append_unless c e t.items) p
 
     -- the answer to e: it has its number, or there is no room for it
-    pub crowds : (e : Expression) (o : Result ℕ NoRoom) (after : List Expression) → room_of t ≡ 64 → computes x ≡ Some e → Answered (entered same_expression (room_of t) e (items_of t)) o after
+    pub crowds : (e : Expression) (o : Result ℕ NoRoom) (after : List Expression) → t.room ≡ 64 → computes x ≡ Some e → Answered (entered equal.it t.room e t.items) o after → ByAppearance equal.it t.room e t.items o after
         → ((is_err o ≡ false) × (after ≡ expressions_in (take (k + 1) ls)) × (Fits asks ls Crowded (suc k) → ⊥)) ⊎ ((is_err o ≡ true) × Fits asks ls Crowded (suc k))
-    crowds e o after room s answered =
-        let few = length-take t.len t.slots.now in
+    crowds e o after room s answered appears =
         let size = ap length held in
-        elim (way same_expression (room_of t) e (items_of t) o after answered) [
+        let told = subst (λ (same : Expression → Expression → Bool). Answered (entered same t.room e t.items) o after) equal_is_same answered in
+        elim (way same_expression t.room e t.items o after told) [
           | known_way p q r ↦ inl (ap is_err q, r ∙ sym (grown e s true p), not_crowded (grown e s true p ∙ held))
           | new_way p l q r ↦ inl (ap is_err q, r ∙ sym (grown e s false p), λ f. let z = f.0 in omega arith)
           | full_way p l q r ↦
+              let full : length t.items ≡ t.room = (subst (λ (o' : Result ℕ NoRoom). ByAppearance equal.it t.room e t.items o' after) q appears).1 in
               let more = ap length (grown e s false p) in
-              let one = length-append (items_of t) (e ∷ []) in
+              let one = length-append t.items (e ∷ []) in
               let next = ap (λ (j : ℕ). length (expressions_in (take j ls))) (add-one k) in
               inr (ap is_err q, (omega arith, omega arith))
         ]

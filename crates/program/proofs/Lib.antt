@@ -1,3 +1,4 @@
+pub mod Equal
 mod Crowding
 mod Halting
 mod Judging

@@ -9,7 +9,8 @@ use Rattle.numbering.specs.declared.list.NoRoom.{NoRoom}
 use Rattle.numbering.specs.Lists.{Answered}
 use Rattle.numbering.specs.Numbers.{Laws, known, number, entered}
 use Rattle.numbering.proofs.Appearance.{number_in}
-use Rattle.numbering.proofs.Deciding.{decided_laws}
+use Rattle.std.specs.Cmp.{decided}
+use Rattle.numbering.proofs.Deciding.{equivalence_laws}
 use Rattle.numbering.proofs.Entering.{way, known_way, new_way, full_way}
 use Rattle.wellformed.specs.Faults.{Repeated, Fits}
 use Rattle.wellformed.proofs.Lined.{at_read}
@@ -19,7 +20,7 @@ use Rattle.program.specs.Written.{Lines}
 use Rattle.program.proofs.Scanning.{take_step}
 
 pub label_laws : Laws same_label
-label_laws = decided_laws same_label label_decides
+label_laws = equivalence_laws (decided same_label label_decides)
 
 -- line k is numbered after those before it
 module _ (ls : Lines) (k : ℕ) (x : Line ℤ) (i : k < length ls) (e : x ≡ get_or ls k x) (items : List Label) (held : items ≡ labels_of (take k ls)) where

@@ -1,22 +1,17 @@
 -- When two expressions are the same. Assumes nothing.
-use Rattle.std.specs.Prelude.{Bool, false, ◌&&◌, ℤ, pos, negsuc, ◌==◌}
+use Rattle.std.specs.Prelude.{Bool, false, ◌&&◌, ℤ, ◌==◌}
+use Rattle.std.specs.Ordering.{int_eq}
 use Rattle.std.specs.Str.{bytes_eq}
 use Rattle.line.specs.declared.syntax.Operand.{Operand}
 use Rattle.line.specs.declared.syntax.Operand.TheVariants.{Var, Num}
 use Rattle.line.specs.Grammar.{spell_operator}
 use Rattle.program.specs.declared.expression.Expression.{Expression}
 
-abbrev pub same_integer : ℤ → ℤ → Bool
-same_integer (pos a) (pos b) = a == b
-same_integer (pos a) (negsuc b) = false
-same_integer (negsuc a) (pos b) = false
-same_integer (negsuc a) (negsuc b) = a == b
-
 abbrev pub operands_same : Operand ℤ → Operand ℤ → Bool
 operands_same (Var v) (Var w) = v.letter == w.letter
 operands_same (Var v) (Num b) = false
 operands_same (Num a) (Var w) = false
-operands_same (Num a) (Num b) = same_integer a b
+operands_same (Num a) (Num b) = int_eq a b
 
 -- operators are told apart by their spelling; all three parts equal make it the same expression
 abbrev pub same_expression : Expression → Expression → Bool

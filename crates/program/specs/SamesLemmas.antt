@@ -1,7 +1,9 @@
 -- Expressions are the same if their parts are equal. Assumes nothing.
-use Rattle.std.specs.Prelude.{◌≡◌, ℕ, Bool, true, ◌&&◌, ℤ, pos, negsuc, Some, Decides}
-use Rattle.std.proofs.Common.{sym, ap, ap₂, ◌∙◌, arith}
+use Rattle.std.specs.Prelude.{◌≡◌, ℕ, ◌&&◌, ℤ, Some, Decides}
+use Rattle.std.proofs.Common.{sym, ap, ◌∙◌, arith}
+use Rattle.std.specs.Cmp.{decided}
 use Rattle.std.specs.Str.{bytes_eq}
+use Rattle.std.proofs.lemmas.Bool.Decides.{Decides-int_eq}
 use Rattle.std.proofs.lemmas.Slice.Eq.{bytes_eq-Decides}
 use Rattle.std.proofs.lemmas.Bool.{and_parts, and_from, false≢true, eqb-true, eq-eqb}
 use Rattle.line.specs.declared.syntax.Operand.{Operand}
@@ -12,23 +14,17 @@ use Rattle.line.specs.Grammar.{spell_operator}
 use Rattle.line.specs.Words.{operator_spelt}
 use Rattle.line.specs.Tokens.{op_back, variable_ext}
 use Rattle.numbering.specs.Numbers.{Laws}
-use Rattle.numbering.proofs.Deciding.{decided_laws}
+use Rattle.numbering.proofs.Deciding.{equivalence_laws}
 use Rattle.program.specs.declared.expression.Expression.{Expression}
-use Rattle.program.specs.Sames.{same_integer, operands_same, same_expression}
-
-number_decides : (a b : ℤ) → Decides (same_integer a b) (a ≡ b)
-number_decides (pos a) (pos b) = (λ t. ap pos (eqb-true a b t), λ e. eq-eqb a b (let z : a ≡ b = cc in z))
-number_decides (pos a) (negsuc b) = (λ t. absurd (false≢true t), λ e. absurd (let z : ◌≡◌ {A = ℕ} 0 1 = cc in omega arith))
-number_decides (negsuc a) (pos b) = (λ t. absurd (false≢true t), λ e. absurd (let z : ◌≡◌ {A = ℕ} 0 1 = cc in omega arith))
-number_decides (negsuc a) (negsuc b) = (λ t. ap negsuc (eqb-true a b t), λ e. eq-eqb a b (let z : a ≡ b = cc in z))
+use Rattle.program.specs.Sames.{operands_same, same_expression}
 
 operand_decides : (a b : Operand ℤ) → Decides (operands_same a b) (a ≡ b)
 operand_decides (Var v) (Var w) = (λ t. ap Var (variable_ext v w (eqb-true v.letter w.letter t)), λ e. eq-eqb v.letter w.letter (let z : v ≡ w = cc in ap (λ (x : Variable). x.letter) z))
 operand_decides (Var v) (Num b) = (λ t. absurd (false≢true t), λ e. absurd (let z : ◌≡◌ {A = ℕ} 0 1 = cc in omega arith))
 operand_decides (Num a) (Var w) = (λ t. absurd (false≢true t), λ e. absurd (let z : ◌≡◌ {A = ℕ} 0 1 = cc in omega arith))
-operand_decides (Num a) (Num b) = (λ t. ap Num ((number_decides a b).0 t), λ e. (number_decides a b).1 (let z : a ≡ b = cc in z))
+operand_decides (Num a) (Num b) = (λ t. ap Num ((Decides-int_eq a b).0 t), λ e. (Decides-int_eq a b).1 (let z : a ≡ b = cc in z))
 
-operator_decides : (p q : Operator) → Decides (bytes_eq (spell_operator p) (spell_operator q)) (p ≡ q)
+pub operator_decides : (p q : Operator) → Decides (bytes_eq (spell_operator p) (spell_operator q)) (p ≡ q)
 operator_decides p q =
     let d = bytes_eq-Decides (spell_operator p) (spell_operator q) in
     (λ t. let e : Some p ≡ Some q = sym (op_back p) ∙ ap operator_spelt (d.0 t) ∙ op_back q in cc, λ e. d.1 (ap spell_operator e))
@@ -51,9 +47,4 @@ expression_decides a b = (
 )
 
 pub expression_laws : Laws same_expression
-expression_laws = decided_laws same_expression expression_decides
-
--- the parts compared one after another
-pub by_parts : (a b : Expression) → a.operator ≡ b.operator → operands_same a.first b.first ≡ true → same_expression a b ≡ operands_same a.second b.second
-by_parts a b o f =
-    ap₂ (λ (x y : Bool). x && (y && operands_same a.second b.second)) ((operator_decides a.operator b.operator).1 o) f
+expression_laws = equivalence_laws (decided same_expression expression_decides)

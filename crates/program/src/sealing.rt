@@ -6,7 +6,6 @@ mod wires;
 
 ghost use Rattle.std.specs.Prelude.{◌≡◌, ◌≤◌, length, MatchResult};
 ghost use Rattle.graph.specs.Made.{shape_in};
-ghost use Rattle.numbering.specs.Lists.{items_of};
 ghost use Rattle.wellformed.specs.Faults.{Clean};
 ghost use Rattle.wellformed.specs.Lines.{graph_of};
 ghost use Rattle.program.specs.Asked.{asks};
@@ -26,7 +25,7 @@ use wires::graph_of;
 // The lines as a graph in which the first line reaches every line, and every line the one that halts.
 fn connect(lines: &[Line], labels: &Numbering<'_, Label>) -> Result<EdgeGraph, Fault>
     requires few { length lines.now ≤ 96 }
-    requires labels { items_of labels.now ≡ labels_of lines.now }
+    requires labels { labels.now.items ≡ labels_of lines.now }
     requires clean { Clean asks lines.now 10 }
     ensures { MatchResult result (λ g. (shape_in g ≡ graph_of asks lines.now) × Clean asks lines.now 14) (Refused lines.now) }
 {

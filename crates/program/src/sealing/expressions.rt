@@ -1,6 +1,5 @@
 // The check that there are at most 64 expressions.
 ghost use Rattle.std.specs.Prelude.{◌≡◌, [], None};
-ghost use Rattle.numbering.specs.Lists.{items_of, room_of};
 ghost use Rattle.wellformed.specs.Faults.{Crowded, Fits};
 ghost use Rattle.program.specs.Asked.{asks};
 ghost use Rattle.program.specs.Refusals.{LowestLine};
@@ -12,10 +11,10 @@ use numbering::Numbering;
 
 // Numbers the expressions, and answers the line that brings the 65th.
 pub(crate) fn first_crowding(lines: &[Line], table: &mut Numbering<'_, Expression>) -> Option<usize>
-    requires empty { items_of table.old ≡ [] }
-    requires room { room_of table.old ≡ 64 }
+    requires empty { table.old.items ≡ [] }
+    requires room { table.old.room ≡ 64 }
     ensures lowest { LowestLine (Fits asks lines.now Crowded) result }
-    ensures table { result ≡ None → items_of table.new ≡ expressions_in lines.now }
+    ensures table { result ≡ None → table.new.items ≡ expressions_in lines.now }
 {
     for (number, line) in lines.iter().enumerate() {
         if let Some(expression) = Expression::of(line) {

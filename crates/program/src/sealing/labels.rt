@@ -1,6 +1,5 @@
 // The checks on labels: a label twice, and successors by their labels.
 ghost use Rattle.std.specs.Prelude.{◌≡◌, ◌≤◌, [], length, None};
-ghost use Rattle.numbering.specs.Lists.{items_of, room_of};
 ghost use Rattle.wellformed.specs.Faults.{Repeated, Fits};
 ghost use Rattle.program.specs.Asked.{asks};
 ghost use Rattle.program.specs.Refusals.{LowestLine, Leads, labels_of};
@@ -11,10 +10,10 @@ use numbering::Numbering;
 
 // Numbers the labels, and answers the lowest line whose label an earlier line has.
 pub(crate) fn first_repeated(lines: &[Line], labels: &mut Numbering<'_, Label>) -> Option<usize>
-    requires empty { items_of labels.old ≡ [] }
-    requires room { length lines.now ≤ room_of labels.old }
+    requires empty { labels.old.items ≡ [] }
+    requires room { length lines.now ≤ labels.old.room }
     ensures lowest { LowestLine (Fits asks lines.now Repeated) result }
-    ensures labels { result ≡ None → items_of labels.new ≡ labels_of lines.now }
+    ensures labels { result ≡ None → labels.new.items ≡ labels_of lines.now }
 {
     for (number, line) in lines.iter().enumerate() {
         let Ok(given) = labels.number(line.label) else {
@@ -33,7 +32,7 @@ pub(crate) fn first_leading(
     labels: &Numbering<'_, Label>,
     to: Option<usize>,
 ) -> Option<usize>
-    requires { items_of labels.now ≡ labels_of lines.now }
+    requires { labels.now.items ≡ labels_of lines.now }
     ensures { LowestLine (Leads lines.now to) result }
 {
     'found: {

@@ -1,7 +1,6 @@
 // The lines as a graph.
 ghost use Rattle.std.specs.Prelude.{◌≡◌, ◌+◌, ◌≤◌, true, ◌++◌, length, take};
 ghost use Rattle.graph.specs.Made.{shape_in};
-ghost use Rattle.numbering.specs.Lists.{items_of};
 ghost use Rattle.wellformed.specs.Faults.{Clean};
 ghost use Rattle.wellformed.specs.Lines.{fan, graph_of};
 ghost use Rattle.program.specs.Asked.{asks, nexts};
@@ -29,9 +28,9 @@ fn put_edges(
     len: usize,
 ) -> usize
     requires room { len + length (nexts line.now) ≤ 192 }
-    requires known { every_known (items_of labels.now) (nexts line.now) ≡ true }
+    requires known { every_known labels.now.items (nexts line.now) ≡ true }
     ensures len { result ≡ len + length (nexts line.now) }
-    ensures edges { take result list.new ≡ take len list.old ++ fan number (places_of (items_of labels.now) (nexts line.now)) }
+    ensures edges { take result list.new ≡ take len list.old ++ fan number (places_of labels.now.items (nexts line.now)) }
 {
     let mut at = len;
     for label in Successors::of(line).labels() {
@@ -46,7 +45,7 @@ fn put_edges(
 // One edge for each successor, by line and then by place.
 fn edges_of(lines: &[Line], labels: &Numbering<'_, Label>) -> Edges
     requires few { length lines.now ≤ 96 }
-    requires labels { items_of labels.now ≡ labels_of lines.now }
+    requires labels { labels.now.items ≡ labels_of lines.now }
     requires known { Clean asks lines.now 10 }
     ensures edges { take result.len result.list ≡ edges_in lines.now }
     ensures fit { (result.len ≤ 192) × (length result.list ≡ 192) }
@@ -61,7 +60,7 @@ fn edges_of(lines: &[Line], labels: &Numbering<'_, Label>) -> Edges
 
 pub(crate) fn graph_of(lines: &[Line], labels: &Numbering<'_, Label>, exit: usize) -> EdgeGraph
     requires few { length lines.now ≤ 96 }
-    requires labels { items_of labels.now ≡ labels_of lines.now }
+    requires labels { labels.now.items ≡ labels_of lines.now }
     requires halts { exit ≡ exit_line lines.now }
     requires clean { Clean asks lines.now 11 }
     ensures { shape_in result ≡ graph_of asks lines.now }

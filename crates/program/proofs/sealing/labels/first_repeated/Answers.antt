@@ -1,6 +1,5 @@
 use Rattle.std.proofs.Common.{◌≡◌, ℕ, suc, ◌+◌, ◌⊎◌, length, take, Ok, ap, ◌∙◌, inl, inr, arith, below_more}
 use Rattle.std.proofs.lemmas.List.{take_all}
-use Rattle.numbering.specs.Lists.{items_of, room_of}
 use Rattle.wellformed.specs.Faults.{Repeated, Fits}
 use Rattle.wellformed.proofs.Judged.{named_in}
 use Rattle.program.specs.Asked.{asks}
@@ -11,12 +10,12 @@ use Rattle.program.proofs.sealing.labels.first_repeated.Goals as goal
 use Rattle.program.proofs.sealing.labels.first_repeated.Goals.{After-number}
 
 -- the answer to the label of a line, by whether the line repeats it
-numbered : (c : goal.After-number) → ((c.number.result ≡ Ok c.loop-number.number) × (items_of c.number.new.self ≡ labels_of (take (c.loop-number.number + 1) c.args.lines.now)) × (Fits asks c.args.lines.now Repeated (suc c.loop-number.number) → ⊥))
+numbered : (c : goal.After-number) → ((c.number.result ≡ Ok c.loop-number.number) × (c.number.new.self.items ≡ labels_of (take (c.loop-number.number + 1) c.args.lines.now)) × (Fits asks c.args.lines.now Repeated (suc c.loop-number.number) → ⊥))
     ⊎ ((c.number.result ≡ Ok c.loop-number.number → ⊥) × Fits asks c.args.lines.now Repeated (suc c.loop-number.number))
 numbered c =
     let room = c.loop-number.invariant.1 in
     repeats c.args.lines.now c.loop-number.number c.index-lines-number.result c.loop-number-test.true c.index-lines-number.is
-    (items_of c.loop-number.labels) c.loop-number.invariant.0 (room_of c.loop-number.labels) c.number.result (items_of c.number.new.self)
+    c.loop-number.labels.items c.loop-number.invariant.0 c.loop-number.labels.room c.number.result c.number.new.self.items
     (omega (arith, c.requires.room)) c.number.ensures.value
 
 pub returns-in_default : goal.returns-in_default

@@ -1,5 +1,4 @@
 use Rattle.std.proofs.Common.{◌≡◌, ℕ, suc, ◌<◌, take}
-use Rattle.numbering.specs.Lists.{items_of, room_of}
 use Rattle.wellformed.specs.Faults.{Repeated, Fits}
 use Rattle.program.specs.Asked.{asks}
 use Rattle.program.specs.Refusals.{labels_of}
@@ -7,6 +6,6 @@ use Rattle.program.proofs.sealing.labels.first_repeated.Given as goal
 
 abbrev pub invariant-loop-number : goal.invariant-loop-number
 invariant-loop-number l =
-    (items_of l.labels ≡ labels_of (take l.number l.lines))
-    × (room_of l.labels ≡ room_of l.initial.labels)
+    (l.labels.items ≡ labels_of (take l.number l.lines))
+    × (l.labels.room ≡ l.initial.labels.room)
     × ((k : ℕ) → k < l.number → Fits asks l.lines Repeated (suc k) → ⊥)

@@ -2,7 +2,6 @@ use Rattle.std.proofs.Common.{suc, List, ◌++◌, take, sym, ap, ◌∙◌, ari
 use Rattle.std.proofs.lemmas.List.{take_all}
 use Rattle.graph.specs.declared.edge.Edge.{Edge}
 use Rattle.line.specs.declared.label.Label.{Label}
-use Rattle.numbering.specs.Lists.{items_of}
 use Rattle.wellformed.specs.Faults.{Dangling}
 use Rattle.wellformed.specs.Lines.{fan, edges_from}
 use Rattle.program.specs.Asked.{asks, nexts}
@@ -28,7 +27,7 @@ loop-number-preserved c =
       c.put_edges-len.array_long,
       omega (arith, c.put_edges-len.ensures.len),
       c.put_edges-len.ensures.edges
-          ∙ ap (λ (es : List Edge). es ++ fan k (places_of (items_of c.args.labels.now) (nexts c.index-lines-number.result))) c.loop-number.invariant.2
+          ∙ ap (λ (es : List Edge). es ++ fan k (places_of c.args.labels.now.items (nexts c.index-lines-number.result))) c.loop-number.invariant.2
           ∙ ap (λ (l : List Label). edges_from asks ls 0 (take k ls) ++ fan k (places_of l (nexts c.index-lines-number.result))) c.requires.labels
           ∙ sym (edges_step ls k c.index-lines-number.result c.loop-number-test.true c.index-lines-number.is),
     )

@@ -1,7 +1,6 @@
 use Rattle.std.proofs.Common.{◌≡◌, ℕ, ◌+◌, true, List, ◌++◌, length, take, ap, ◌∙◌, arith}
 use Rattle.std.proofs.lemmas.List.{take_all}
 use Rattle.line.specs.declared.label.Label.{Label}
-use Rattle.numbering.specs.Lists.{items_of}
 use Rattle.wellformed.specs.Lines.{fan}
 use Rattle.program.specs.Refusals.{every_known, places_of}
 use Rattle.program.proofs.Wiring.{is_found, edge_more}
@@ -18,7 +17,7 @@ pub loop-label-preserved : goal.loop-label-preserved
 loop-label-preserved c =
     let ks = c.labels-label-items.result.now in
     let same = c.labels-label-items.ensures ∙ c.of.ensures in
-    let items = items_of c.args.labels.now in
+    let items = c.args.labels.now.items in
     let i = c.loop-label.label-index in
     let all : every_known items ks ≡ true = ap (every_known items) same ∙ c.requires.known in
     let size = ap length same in
@@ -42,5 +41,5 @@ returns c =
     let p = c.loop-label.invariant.1 in
     record {
       len = omega (arith, c.loop-label-test.false);
-      edges = c.loop-label.invariant.2 ∙ ap (λ (l : List Label). take c.args.len c.args.list.now ++ fan c.args.number (places_of (items_of c.args.labels.now) l)) (take_all c.loop-label.label-index ks c.loop-label-test.false ∙ same);
+      edges = c.loop-label.invariant.2 ∙ ap (λ (l : List Label). take c.args.len c.args.list.now ++ fan c.args.number (places_of c.args.labels.now.items l)) (take_all c.loop-label.label-index ks c.loop-label-test.false ∙ same);
     }
