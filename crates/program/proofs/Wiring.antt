@@ -1,6 +1,6 @@
 -- Edges that are put one behind another. Assumes nothing.
-use Rattle.std.proofs.Common.{◌≡◌, ℕ, zero, suc, ◌+◌, ◌<◌, ◌≤◌, Bool, true, false, cond, not, ◌&&◌, ◌||◌, T, List, [], ◌∷◌, ◌++◌, length, get_or, take, set, ℤ, Some, None, Option, sym, refl, ap, ◌∙◌, subst, append_assoc, le_of_lt, arith}
-use Rattle.std.proofs.lemmas.List.{take_more, take_more_set, map_push, length-take-le}
+use Rattle.std.proofs.Common.{◌≡◌, ℕ, zero, suc, ◌+◌, ◌<◌, ◌≤◌, Bool, true, false, cond, not, ◌&&◌, ◌||◌, T, List, [], ◌∷◌, ◌++◌, length, get_or, take, ℤ, Some, None, Option, sym, refl, ap, ◌∙◌, subst, append_assoc, le_of_lt, arith, length-append}
+use Rattle.std.proofs.lemmas.List.{take_more, map_push, length-take-le, length-map}
 use Rattle.std.proofs.lemmas.Bool.{and_parts}
 use Rattle.graph.specs.declared.edge.Edge.{Edge}
 use Rattle.line.specs.declared.label.Label.{Label}
@@ -8,7 +8,7 @@ use Rattle.line.specs.declared.syntax.Line.{Line}
 use Rattle.line.specs.Words.{same_label}
 use Rattle.numbering.specs.Numbers.{known, number, number_in}
 use Rattle.wellformed.specs.Lines.{fan, at, dangles, edges_from}
-use Rattle.wellformed.proofs.Lined.{at_read, edges_push, edges_few}
+use Rattle.wellformed.proofs.Lined.{at_read, edges_push, edges_few, length_fan}
 use Rattle.program.specs.Asked.{asks, nexts}
 use Rattle.program.specs.Refusals.{labels_of, every_known, places_of}
 use Rattle.program.specs.Written.{Lines}
@@ -34,18 +34,17 @@ module _ (items ks : List Label) (i : ℕ) (a : Label) (all : every_known items 
   is_found o p n = let f = found in let z : ◌≡◌ {A = ℕ} 0 1 = cc in omega arith
 
   -- one edge more
-  pub edge_more : (n h at : ℕ) (list : List Edge) (front : List Edge) → at < length list → Some h ≡ number_in same_label a items
-      → take at list ≡ front ++ fan n (places_of items (take i ks))
-      → take (at + 1) (set list at (record { tail = n; head = h })) ≡ front ++ fan n (places_of items (take (i + 1) ks))
-  edge_more n h at list front room f held =
+  pub edge_more : (n h : ℕ) (es front : List Edge) → Some h ≡ number_in same_label a items
+      → es ≡ front ++ fan n (places_of items (take i ks))
+      → es ++ (record { tail = n; head = h } ∷ []) ≡ front ++ fan n (places_of items (take (i + 1) ks))
+  edge_more n h es front f held =
       let same : h ≡ number same_label a items = let g = found in cc in
       let more : places_of items (take (i + 1) ks) ≡ places_of items (take i ks) ++ (h ∷ [])
       = ap (places_of items) (take_more ks i a l ∙ ap (λ (b : Label). take i ks ++ (b ∷ [])) (sym e)) ∙ map_push (λ b. number same_label b items) (take i ks) a
       ∙ ap (λ (j : ℕ). places_of items (take i ks) ++ (j ∷ [])) (sym same) in
-      take_more_set list at (record { tail = n; head = h }) room
-      ∙ ap (λ (es : List Edge). es ++ (record { tail = n; head = h } ∷ [])) held
+      ap (λ (l : List Edge). l ++ (record { tail = n; head = h } ∷ [])) held
       ∙ append_assoc front (fan n (places_of items (take i ks))) (record { tail = n; head = h } ∷ [])
-      ∙ ap (λ (es : List Edge). front ++ es) (sym (ap (fan n) more ∙ fan_push n (places_of items (take i ks)) h))
+      ∙ ap (λ (l : List Edge). front ++ l) (sym (ap (fan n) more ∙ fan_push n (places_of items (take i ks)) h))
 
 -- no label of a line is wanting
 
@@ -67,11 +66,15 @@ module _ (ls : Lines) (k : ℕ) (x : Line ℤ) (i : k < length ls) (e : x ≡ ge
       ∙ ap (λ (j : ℕ). edges_from asks ls 0 (take k ls) ++ fan j (places_of (labels_of ls) (nexts x))) (let q = length-take-le k ls (le_of_lt i) in let z : 0 + length (take k ls) ≡ k = omega arith in z)
 
   -- there is room for the edges of one line more
-  pub edges_room : (len : ℕ) (list : List Edge) → length list ≡ 192 → len ≤ 192 → take len list ≡ edges_from asks ls 0 (take k ls) → length ls ≤ 96 → len + length (nexts x) ≤ 192
-  edges_room len list long short held small =
+  pub edges_room : (es : List Edge) → es ≡ edges_from asks ls 0 (take k ls) → length ls ≤ 96 → length es + length (nexts x) ≤ 192
+  edges_room es held small =
       let few = edges_few asks lawful ls (take k ls) 0 in
       let size = length-take-le k ls (le_of_lt i) in
       let two = lawful.two x in
       let same = ap length held in
-      let all = length-take-le len list (omega arith) in
       omega arith
+
+-- as many edges as labels, so far
+pub fan_long : (n : ℕ) (items ks : List Label) (i : ℕ) (es front : List Edge) → i ≤ length ks → es ≡ front ++ fan n (places_of items (take i ks)) → length es ≡ length front + i
+fan_long n items ks i es front h e =
+    ap length e ∙ length-append front _ ∙ ap (λ k. length front + k) (length_fan n (places_of items (take i ks)) ∙ length-map (take i ks) (λ a. number same_label a items) ∙ length-take-le i ks h)

@@ -59,7 +59,7 @@ within_fan : (c i : ℕ) (hs : List ℕ) → i < c → AllBelow c hs → within 
 within_fan c i [] l a = refl
 within_fan c i (h ∷ hs) l a = and_from (ltb i c) (ltb h c && within c (fan i hs)) (lt-ltb i c l) (and_from (ltb h c) (within c (fan i hs)) (lt-ltb h c a.0) (within_fan c i hs l a.1))
 
-length_fan : (i : ℕ) (hs : List ℕ) → length (fan i hs) ≡ length hs
+pub length_fan : (i : ℕ) (hs : List ℕ) → length (fan i hs) ≡ length hs
 length_fan i [] = refl
 length_fan i (h ∷ hs) = ap suc (length_fan i hs)
 

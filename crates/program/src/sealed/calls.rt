@@ -35,20 +35,20 @@ fn end_halt() -> Line
     ensures reads { reading (codes "end halt") ≡ Ok result }
     ensures halt { result.statement ≡ Halt }
 {
-    match read(b"end halt") {
-        Ok(line) => line,
-        Err(_) => unreachable(),
-    }
+    let Ok(line) = read(b"end halt") else {
+        unreachable()
+    };
+    line
 }
 
 // A graph of one node.
 fn lone_node() -> EdgeGraph
     ensures { shape_in result ≡ edge_shape 1 0 0 [] }
 {
-    match EdgeGraph::new(1, 0, 0, &[]) {
-        Some(graph) => graph,
-        None => unreachable(),
-    }
+    let Some(graph) = EdgeGraph::new(1, 0, 0, &[]) else {
+        unreachable()
+    };
+    graph
 }
 
 // Puts the items in the place of those that the list has.

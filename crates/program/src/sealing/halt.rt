@@ -11,10 +11,7 @@ use line::{Line, Statement};
 fn halts(line: &Line) -> bool
     ensures { result ≡ halts_at line.now.statement }
 {
-    match line.statement {
-        Statement::Halt => true,
-        _ => false,
-    }
+    matches!(line.statement, Statement::Halt)
 }
 
 // The number of the line that halts, counted from 0.
@@ -31,8 +28,5 @@ pub(crate) fn only_halt(lines: &[Line]) -> Result<usize, Fault>
             halt = Some(number);
         }
     }
-    match halt {
-        Some(number) => Ok(number),
-        None => Err(Kind::NotOneHalt.on(0)),
-    }
+    halt.ok_or(Kind::NotOneHalt.on(0))
 }

@@ -26,23 +26,29 @@ pub(crate) fn first_repeated(lines: &[Line], labels: &mut Numbering<'_, Label>) 
     None
 }
 
-// The lowest line with a successor label that stands on that line, or on none.
-pub(crate) fn first_leading(
-    lines: &[Line],
-    labels: &Numbering<'_, Label>,
-    to: Option<usize>,
-) -> Option<usize>
-    requires { labels.now.items ≡ labels_of lines.now }
-    ensures { LowestLine (Leads lines.now to) result }
-{
-    'found: {
-        for (number, line) in lines.iter().enumerate() {
-            for label in Successors::of(line).labels() {
-                if labels.find(label) == to {
-                    break 'found Some(number);
+// At most 96 lines with their labels, of which none stands twice, so that each has its line's number.
+#[derive(Drop)]
+pub(crate) struct Labelled<'l, 'n> {
+    pub(crate) lines: &'l [Line],
+    pub(crate) labels: Numbering<'n, Label>,
+    ghost few: { length lines.now ≤ 96 },
+    ghost named: { labels.items ≡ labels_of lines.now },
+}
+
+impl Labelled<'_, '_> {
+    // The lowest line with a successor label that stands on that line, or on none.
+    pub(crate) fn first_leading(&self, to: Option<usize>) -> Option<usize>
+        ensures { LowestLine (Leads self.now.lines.now to) result }
+    {
+        'found: {
+            for (number, line) in self.lines.iter().enumerate() {
+                for label in Successors::of(line).labels() {
+                    if self.labels.find(label) == to {
+                        break 'found Some(number);
+                    }
                 }
             }
+            None
         }
-        None
     }
 }

@@ -1,73 +1,63 @@
 // The lines as a graph.
-ghost use Rattle.std.specs.Prelude.{◌≡◌, ◌+◌, ◌≤◌, true, ◌++◌, length, take};
+ghost use Rattle.std.specs.Prelude.{◌≡◌, ◌+◌, ◌≤◌, true, ◌++◌, length};
 ghost use Rattle.graph.specs.Made.{shape_in};
 ghost use Rattle.wellformed.specs.Faults.{Clean};
 ghost use Rattle.wellformed.specs.Lines.{fan, graph_of};
 ghost use Rattle.program.specs.Asked.{asks, nexts};
-ghost use Rattle.program.specs.Refusals.{labels_of, every_known, places_of};
+ghost use Rattle.program.specs.Refusals.{every_known, places_of};
 ghost use Rattle.program.specs.Written.{edges_in, exit_line};
 
+use crate::sealing::labels::Labelled;
 use crate::successors::Successors;
+use arrayvec::ArrayVec;
+use draft::MOST_LINES;
 use graph::{Edge, EdgeGraph};
 use line::{Label, Line};
 use numbering::Numbering;
 
-// The first `len` edges.
-#[derive(Clone, Copy)]
-struct Edges {
-    list: [Edge; 192],
-    len: usize,
-}
+// The most edges of a program: two for each line.
+const MOST_EDGES: usize = 2 * MOST_LINES;
 
-// Puts an edge to each successor of the line behind the first `len`, and answers how many there are then.
+// Puts an edge to each successor of the line behind those that there are.
 fn put_edges(
     number: usize,
     line: &Line,
     labels: &Numbering<'_, Label>,
-    list: &mut [Edge; 192],
-    len: usize,
-) -> usize
-    requires room { len + length (nexts line.now) ≤ 192 }
+    edges: &mut ArrayVec<Edge, MOST_EDGES>,
+)
+    requires room { length edges.old.items + length (nexts line.now) ≤ 192 }
     requires known { every_known labels.now.items (nexts line.now) ≡ true }
-    ensures len { result ≡ len + length (nexts line.now) }
-    ensures edges { take result list.new ≡ take len list.old ++ fan number (places_of labels.now.items (nexts line.now)) }
+    ensures { edges.new.items ≡ edges.old.items ++ fan number (places_of labels.now.items (nexts line.now)) }
 {
-    let mut at = len;
     for label in Successors::of(line).labels() {
         if let Some(head) = labels.find(label) {
-            list[at] = Edge { tail: number, head };
-            at += 1;
+            edges.push(Edge { tail: number, head });
         }
     }
-    at
 }
 
-// One edge for each successor, by line and then by place.
-fn edges_of(lines: &[Line], labels: &Numbering<'_, Label>) -> Edges
-    requires few { length lines.now ≤ 96 }
-    requires labels { labels.now.items ≡ labels_of lines.now }
-    requires known { Clean asks lines.now 10 }
-    ensures edges { take result.len result.list ≡ edges_in lines.now }
-    ensures fit { (result.len ≤ 192) × (length result.list ≡ 192) }
-{
-    let mut list = [Edge { tail: 0, head: 0 }; 192];
-    let mut len = 0;
-    for (number, line) in lines.iter().enumerate() {
-        len = put_edges(number, line, labels, &mut list, len);
+impl Labelled<'_, '_> {
+    // One edge for each successor, by line and then by place.
+    fn edges(&self) -> ArrayVec<Edge, MOST_EDGES>
+        requires { Clean asks self.now.lines.now 10 }
+        ensures { result.items ≡ edges_in self.now.lines.now }
+    {
+        let mut edges = ArrayVec::new();
+        for (number, line) in self.lines.iter().enumerate() {
+            put_edges(number, line, &self.labels, &mut edges);
+        }
+        edges
     }
-    Edges { list, len }
-}
 
-pub(crate) fn graph_of(lines: &[Line], labels: &Numbering<'_, Label>, exit: usize) -> EdgeGraph
-    requires few { length lines.now ≤ 96 }
-    requires labels { labels.now.items ≡ labels_of lines.now }
-    requires halts { exit ≡ exit_line lines.now }
-    requires clean { Clean asks lines.now 11 }
-    ensures { shape_in result ≡ graph_of asks lines.now }
-{
-    let edges = edges_of(lines, labels);
-    match EdgeGraph::new(lines.len(), 0, exit, &edges.list[0..edges.len]) {
-        Some(graph) => graph,
-        None => unreachable(),
+    pub(crate) fn graph(&self, exit: usize) -> EdgeGraph
+        requires halts { exit ≡ exit_line self.now.lines.now }
+        requires clean { Clean asks self.now.lines.now 11 }
+        ensures { shape_in result ≡ graph_of asks self.now.lines.now }
+    {
+        let edges = self.edges();
+        let Some(graph) = EdgeGraph::new(self.lines.len(), 0, exit, edges.as_slice()) else {
+            unreachable()
+        };
+        graph
     }
 }

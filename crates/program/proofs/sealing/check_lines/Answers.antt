@@ -27,8 +27,8 @@ overflow_add-number c =
 pub returns-in-Some : goal.returns-in-Some
 returns-in-Some c = refuse c.args.lines.now Repeated (begun (goal.at.returns-in-Some c).Else-is_empty) (λ t. t) c.in-Some.number c.in-Some.ensures.lowest c.on-in-Some.result c.on-in-Some.ensures
 
-pub first_leading-requires : goal.first_leading-requires
-first_leading-requires c = c.in_default.ensures.labels refl
+pub invariant_of-labelled : goal.invariant_of-labelled
+invariant_of-labelled c = record { few = c.requires; named = c.in_default.ensures.labels refl }
 
 pub overflow_add-number-in-Some-first_leading : goal.overflow_add-number-in-Some-first_leading
 overflow_add-number-in-Some-first_leading c =
@@ -50,8 +50,4 @@ pub connect-requires : goal.connect-requires
 connect-requires c =
     let ls = c.args.lines.now in
     let at = goal.at.connect-requires c in
-    record {
-      few = c.requires;
-      labels = c.in_default.ensures.labels refl;
-      clean = go_on ls Dangling (no_repeats at.In_default (begun at.Else-is_empty)) (λ t. t) (lowest_dangling ls None c.in_default-first_leading.ensures);
-    }
+    go_on ls Dangling (no_repeats at.In_default (begun at.Else-is_empty)) (λ t. t) (lowest_dangling ls None c.in_default-first_leading.ensures)

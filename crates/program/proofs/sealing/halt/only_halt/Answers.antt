@@ -1,6 +1,10 @@
-use Rattle.std.proofs.Common.{suc, take, sym, ◌∙◌, below_more}
-use Rattle.wellformed.specs.Faults.{Halts, Fits}
+use Rattle.std.proofs.Common.{◌≡◌, ℕ, suc, take, Some, None, Option, Result, MatchResult, sym, refl, ◌∙◌, subst, below_more}
+use Rattle.std.specs.Option.{ok_or}
+use Rattle.fault.specs.declared.Fault.{Fault}
+use Rattle.wellformed.specs.Faults.{Halts, Fits, Clean}
 use Rattle.program.specs.Asked.{asks}
+use Rattle.program.specs.Refusals.{Refused}
+use Rattle.program.specs.Written.{exit_line}
 use Rattle.program.proofs.Halting.{was_found, none_found, runs_on, first_halts, second_halts, refuse_second, refuse_none, one_halts}
 use Rattle.program.proofs.sealing.halt.only_halt.Goals as goal
 use Rattle.program.proofs.sealing.halt.only_halt.Goals.{then-halts+else-is_some, else-halts}
@@ -28,8 +32,13 @@ loop-number-preserved c =
           (w.halt-is ∙ h.0, below_more (λ j. Fits asks ls Halts (suc j) → ⊥) k c.loop-number.invariant.1 h.1)
     ]
 
-pub returns-in-Some : goal.returns-in-Some
-returns-in-Some c = one_halts c.args.lines.now c.requires c.loop-number.number c.loop-number-test.false c.loop-number.invariant.1 c.in-Some.number (sym c.in-Some.is ∙ c.loop-number.invariant.0)
+-- whether a line was found that halts
+told : (c : goal.After-ok_or) (o : Option ℕ) → c.loop-number.halt ≡ o
+    → MatchResult (ok_or o c.on-2.result) (λ n. (n ≡ exit_line c.args.lines.now) × Clean asks c.args.lines.now 11) (Refused c.args.lines.now)
+told c (Some n) e = one_halts c.args.lines.now c.requires c.loop-number.number c.loop-number-test.false c.loop-number.invariant.1 n (sym e ∙ c.loop-number.invariant.0)
+told c None e = refuse_none c.args.lines.now c.requires c.loop-number.number c.loop-number-test.false c.loop-number.invariant.1 (sym e ∙ c.loop-number.invariant.0) c.on-2.result c.on-2.ensures
 
-pub returns-in-None : goal.returns-in-None
-returns-in-None c = refuse_none c.args.lines.now c.requires c.loop-number.number c.loop-number-test.false c.loop-number.invariant.1 (sym c.in-None.is ∙ c.loop-number.invariant.0) c.on-in-None.result c.on-in-None.ensures
+pub returns : goal.returns
+returns c =
+    subst (λ (r : Result ℕ Fault). MatchResult r (λ n. (n ≡ exit_line c.args.lines.now) × Clean asks c.args.lines.now 11) (Refused c.args.lines.now)) (sym c.ok_or.ensures.value)
+    (told c c.loop-number.halt refl)
