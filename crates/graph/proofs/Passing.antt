@@ -1,7 +1,8 @@
 -- Edges passed one by one. Assumes nothing.
-use Rattle.std.proofs.Common.{◌≡◌, ℕ, ◌+◌, ◌<◌, ◌≤◌, Bool, true, false, ◌&&◌, eqb, ltb, List, [], ◌∷◌, ◌++◌, length, get_or, take, drop, set, refl, ap, ◌∙◌, ap₂}
-use Rattle.std.proofs.lemmas.List.{append_assoc, at_drop_more, take_more_set}
-use Rattle.std.proofs.lemmas.Bool.{eq-eqb, ne_eqb, lt-ltb, le-ltb}
+use Rattle.std.proofs.Common.{◌≡◌, ℕ, ◌+◌, ◌<◌, Bool, true, false, ◌&&◌, eqb, ltb, List, [], ◌∷◌, length, get_or, drop, refl, ap, ◌∙◌}
+use Rattle.std.proofs.lemmas.List.{at_drop_more}
+use Rattle.std.specs.List.{list_all}
+use Rattle.std.proofs.lemmas.Bool.{eq-eqb, ne_eqb}
 use Rattle.graph.specs.declared.edge.Edge.{Edge}
 use Rattle.graph.specs.Edges.{put, heads_from, within}
 
@@ -15,19 +16,11 @@ module _ (es : List Edge) (i : ℕ) (d : Edge) (h : i < length es) (n : ℕ) whe
   pub heads_past : ((get_or es i d).tail ≡ n → ⊥) → heads_from n (drop i es) ≡ heads_from n (drop (i + 1) es)
   heads_past f = heads_at false (ne_eqb (get_or es i d).tail n f)
 
-  -- here n is a count
-  within_at : (a b : Bool) → ltb (get_or es i d).tail n ≡ a → ltb (get_or es i d).head n ≡ b → within n (drop i es) ≡ (a && (b && within n (drop (i + 1) es)))
-  within_at a b p q = at_drop_more (within n) es i d h ∙ ap₂ (λ (x y : Bool). x && (y && within n (drop (i + 1) es))) p q
+-- the test of every edge
+and_join : (a b c : Bool) → (a && (b && c)) ≡ ((a && b) && c)
+and_join true b c = refl
+and_join false b c = refl
 
-  pub within_past : (get_or es i d).tail < n → (get_or es i d).head < n → within n (drop i es) ≡ within n (drop (i + 1) es)
-  within_past t u = within_at true true (lt-ltb (get_or es i d).tail n t) (lt-ltb (get_or es i d).head n u)
-
-  pub tail_beyond : n ≤ (get_or es i d).tail → within n (drop i es) ≡ false
-  tail_beyond t = within_at false _ (le-ltb (get_or es i d).tail n t) refl
-
-  pub head_beyond : (get_or es i d).tail < n → n ≤ (get_or es i d).head → within n (drop i es) ≡ false
-  head_beyond t u = within_at true false (lt-ltb (get_or es i d).tail n t) (le-ltb (get_or es i d).head n u)
-
--- one number more stands in the first places
-pub one_more : (xs l : List ℕ) (k x : ℕ) → k < length xs → take (k + 1) (set xs k x) ++ l ≡ take k xs ++ (x ∷ l)
-one_more xs l k x h = ap (λ (p : List ℕ). p ++ l) (take_more_set xs k x h) ∙ append_assoc (take k xs) (x ∷ []) l
+pub within_all : (c : ℕ) (es : List Edge) → within c es ≡ list_all (λ e. ltb e.tail c && ltb e.head c) es
+within_all c [] = refl
+within_all c (e ∷ es) = and_join (ltb e.tail c) (ltb e.head c) (within c es) ∙ ap (λ b. (ltb e.tail c && ltb e.head c) && b) (within_all c es)

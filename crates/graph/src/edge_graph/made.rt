@@ -1,9 +1,9 @@
 // How a graph is made from its edges, and what it answers.
-ghost use Rattle.std.specs.Prelude.{◌≡◌, ℕ, ◌≤◌, map, length, take};
+ghost use Rattle.std.specs.Prelude.{◌≡◌, ℕ, ◌<◌, ◌≤◌, ◌↔◌, IsTrue, map, length};
 ghost use Rattle.graph.specs.Edges.{within, turned_edge};
-ghost use Rattle.graph.specs.Made.{shape_in, Makes, narrow};
+ghost use Rattle.graph.specs.Made.{shape_in, Makes};
 ghost use Rattle.std.proofs.Common.{arith};
-ghost use Rattle.graph.specs.Rows.{row_values_below};
+ghost use Rattle.graph.specs.Rows.{row, row_values_below};
 ghost use Rattle.graph.specs.EdgeLists.{below_fact};
 ghost use Rattle.graph.specs.Making.{row_none};
 
@@ -11,30 +11,25 @@ use crate::adjacency::{Adjacency, MOST_EDGES};
 use crate::edge::Edge;
 use crate::edge_graph::EdgeGraph;
 use crate::flow_graph::{Graph, MOST_NODES};
+use arrayvec::ArrayVec;
 
 // Whether every edge joins nodes below the count.
 fn all_within(count: usize, edges: &[Edge]) -> bool
     ensures { result ≡ within count edges.now }
 {
-    for edge in edges {
-        if edge.tail >= count || edge.head >= count {
-            return false;
-        }
-    }
-    true
+    edges
+        .iter()
+        .all(|edge| edge.tail < count && edge.head < count)
 }
 
-// The edges turned round, behind them an edge that is of no account.
-fn turned_round(edges: &[Edge]) -> [Edge; MOST_EDGES]
+// The edges turned round.
+fn turned_round(edges: &[Edge]) -> ArrayVec<Edge, MOST_EDGES>
     requires { length edges.now ≤ 384 }
-    ensures { take (length edges.now) result ≡ map turned_edge edges.now }
+    ensures { result.items ≡ map turned_edge edges.now }
 {
-    let mut turned = [Edge { tail: 0, head: 0 }; MOST_EDGES];
-    for (place, edge) in edges.iter().enumerate() {
-        turned[place] = Edge {
-            tail: edge.head,
-            head: edge.tail,
-        };
+    let mut turned = ArrayVec::new();
+    for edge in edges {
+        turned.push(edge.turned());
     }
     turned
 }
@@ -42,14 +37,9 @@ fn turned_round(edges: &[Edge]) -> [Edge; MOST_EDGES]
 // Whether no node has more than 288 neighbours.
 fn all_narrow(count: usize, lists: &Adjacency) -> bool
     requires { count ≤ 288 }
-    ensures { result ≡ narrow count lists.now }
+    ensures { IsTrue result ↔ ((n : ℕ) → n < count → length (row lists.now n) ≤ 288) }
 {
-    for n in 0..count {
-        if lists.get(n, MOST_NODES).is_some() {
-            return false;
-        }
-    }
-    true
+    (0..count).all(|n| lists.row(n).len() <= MOST_NODES)
 }
 
 impl EdgeGraph {
@@ -65,7 +55,7 @@ impl EdgeGraph {
         }
         let turned = turned_round(edges);
         let outgoing = Adjacency::new(count, edges);
-        let incoming = Adjacency::new(count, &turned[0..edges.len()]);
+        let incoming = Adjacency::new(count, turned.as_slice());
         if !all_narrow(count, &outgoing) || !all_narrow(count, &incoming) {
             return None;
         }
@@ -111,19 +101,19 @@ impl Graph for EdgeGraph {
         self.exit
     }
 
-    fn successor(&self, n: usize, k: usize) -> Option<usize> {
+    fn successors(&self, n: usize) -> &[usize] {
         if n < self.count {
-            self.outgoing.get(n, k)
+            self.outgoing.row(n)
         } else {
-            None
+            &[]
         }
     }
 
-    fn predecessor(&self, n: usize, k: usize) -> Option<usize> {
+    fn predecessors(&self, n: usize) -> &[usize] {
         if n < self.count {
-            self.incoming.get(n, k)
+            self.incoming.row(n)
         } else {
-            None
+            &[]
         }
     }
 }
