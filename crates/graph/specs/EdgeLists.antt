@@ -1,6 +1,7 @@
 -- The edges of a list, seen from their tails and from their heads. Assumes nothing.
-use Rattle.std.specs.Prelude.{◌≡◌, ℕ, ◌+◌, ◌≤◌, Bool, true, false, cond, ◌&&◌, List, [], ◌∷◌, map, length, ◌==◌, nat_lt, refl}
+use Rattle.std.specs.Prelude.{◌≡◌, ℕ, zero, suc, ◌+◌, ◌<◌, ◌≤◌, Bool, true, false, cond, ◌&&◌, List, [], ◌∷◌, map, length, ◌==◌, nat_lt, All, refl}
 use Rattle.std.proofs.Common.{sym, ap, ap₂, subst, ◌∙◌, arith}
+use Rattle.std.proofs.Math.Bool.{and_comm}
 use Rattle.std.proofs.lemmas.List.{length-map}
 use Rattle.std.proofs.lemmas.Bool.{and_parts, and_from, ltb-true, lt-ltb, eq-eqb, ne_eqb}
 use Rattle.std.proofs.lemmas.Bool.Decides.{nat_tests}
@@ -50,6 +51,21 @@ within_parts c e es h =
     let p = and_parts (nat_lt e.tail c) (nat_lt e.head c && within c es) h in
     let q = and_parts (nat_lt e.head c) (within c es) p.1 in
     (p.0, q.0, q.1)
+
+abbrev Inside : ℕ → Edge → Type 0
+Inside c e = (e.tail < c) × (e.head < c)
+
+pub within_every : (c : ℕ) (es : List Edge) → All (Inside c) es → within c es ≡ true
+within_every c [] h = refl
+within_every c (e ∷ es) h =
+    let p = h 0 e (omega arith) in
+    and_from (nat_lt e.tail c) (nat_lt e.head c && within c es) (lt-ltb e.tail c p.0)
+    (and_from (nat_lt e.head c) (within c es) (lt-ltb e.head c p.1) (within_every c es (λ k d i. h (suc k) d (omega arith))))
+
+pub every_within : (c : ℕ) (es : List Edge) → within c es ≡ true → All (Inside c) es
+every_within c [] h k d i = absurd (omega arith)
+every_within c (e ∷ es) h zero d i = let p = within_parts c e es h in (ltb-true e.tail c p.0, ltb-true e.head c p.1)
+every_within c (e ∷ es) h (suc k) d i = every_within c es (within_parts c e es h).2 k d (omega arith)
 
 pub heads_below : (c : ℕ) (es : List Edge) (m : ℕ) → within c es ≡ true → all_below c (heads_from m es) ≡ true
 heads_below c [] m h = refl
@@ -107,15 +123,9 @@ times_put : (b : Bool) (n x : ℕ) (l : List ℕ) → times n (put b x l) ≡ co
 times_put true n x l = refl
 times_put false n x l = omega arith
 
-and_flip : (a b : Bool) → (a && b) ≡ (b && a)
-and_flip true true = refl
-and_flip true false = refl
-and_flip false true = refl
-and_flip false false = refl
-
 pub same_edges : (es : List Edge) (m n : ℕ) → times n (heads_from m es) ≡ times m (tails_to n es)
 same_edges [] m n = refl
 same_edges (e ∷ es) m n =
     times_put (e.tail == m) n e.head (heads_from m es)
-    ∙ ap₂ (λ (b : Bool) (k : ℕ). cond b 1 0 + k) (and_flip (e.tail == m) (e.head == n)) (same_edges es m n)
+    ∙ ap₂ (λ (b : Bool) (k : ℕ). cond b 1 0 + k) (and_comm (e.tail == m) (e.head == n)) (same_edges es m n)
     ∙ sym (times_put (e.head == n) m e.tail (tails_to n es))

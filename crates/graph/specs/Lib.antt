@@ -5,4 +5,3 @@ pub mod Rows
 pub mod Shapes
 pub mod EdgeLists
 pub mod Making
-pub mod Nths

@@ -41,6 +41,7 @@ impl Adjacency {
         requires short { length edges.now ≤ 384 }
         ensures { (n : ℕ) → n < count → row result n ≡ heads_from n edges.now }
     {
+        // What is no node has no neighbours, and its list starts at the end.
         let mut starts = [edges.len(); MOST_NODES + 1];
         starts[0] = 0;
         let mut heads = ArrayVec::new();

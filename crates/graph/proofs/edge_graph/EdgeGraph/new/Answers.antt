@@ -1,8 +1,8 @@
-use Rattle.std.proofs.Common.{◌≡◌, ℕ, ◌<◌, map, length, sym, refl, ap, ◌∙◌, arith}
-use Rattle.std.proofs.lemmas.Bool.{both_ways, iff_false}
-use Rattle.graph.specs.Edges.{heads_from, turned_edge, within}
+use Rattle.std.proofs.Common.{◌≡◌, ℕ, ◌<◌, map, length, refl, ap, ◌∙◌, arith}
+use Rattle.std.proofs.lemmas.Bool.{iff_false}
+use Rattle.graph.specs.Edges.{heads_from, turned_edge}
 use Rattle.graph.specs.Rows.{row}
-use Rattle.graph.specs.EdgeLists.{within_from, within_turned, tails_turned}
+use Rattle.graph.specs.EdgeLists.{within_every, every_within, within_from, within_turned, tails_turned}
 use Rattle.graph.specs.Making.{row_below, row_short, short_row, succs_are, preds_are, rows_same}
 use Rattle.graph.proofs.Shaped.{same_shape}
 use Rattle.graph.proofs.edge_graph.EdgeGraph.new.Goals as goal
@@ -14,7 +14,7 @@ incoming c n h = c.new-incoming.ensures n h ∙ ap (heads_from n) (c.as_slice.en
 pub returns-then-not-all_within : goal.returns-then-not-all_within
 returns-then-not-all_within c sized few =
     let es = c.args.edges.now in
-    both_ways (within c.args.count es) (sym c.if-not-all_within.ensures) (within_from c.args.count es sized.succs_in sized.preds_in)
+    iff_false c.all_within.ensures c.if-not-all_within.true (every_within c.args.count es (within_from c.args.count es sized.succs_in sized.preds_in))
 
 pub returns-then-not-all_narrow : goal.returns-then-not-all_narrow
 returns-then-not-all_narrow c sized few =
@@ -37,7 +37,7 @@ invariant_of-result c =
     let i = c.new-incoming.result in
     let out = c.new-outgoing.ensures in
     let into = incoming (goal.at.invariant_of-result c).After-new-incoming in
-    let w = sym c.if-not-all_within.ensures in
+    let w = within_every n es (c.all_within.ensures.0 c.if-not-all_within.false) in
     record {
       most = c.if-count-gt-MOST_NODES.false;
       enters = c.if-entry-count.false;
@@ -57,5 +57,5 @@ returns c =
     let i = c.new-incoming.result in
     let out = c.new-outgoing.ensures in
     let into = incoming (goal.at.returns c).After-new-incoming in
-    let w = sym c.if-not-all_within.ensures in
+    let w = within_every n es (c.all_within.ensures.0 c.if-not-all_within.false) in
     same_shape refl refl refl (succs_are n es o i out into w) (preds_are n es o i out into w)
