@@ -2,7 +2,7 @@
 use Rattle.std.proofs.Common.{◌≡◌, ℕ, zero, suc, ◌+◌, ◌<◌, ◌≤◌, Bool, true, false, cond, eqb, List, [], ◌∷◌, length, get_or, drop, sym, refl, ap, subst, ◌∙◌, ap₂, arith}
 use borrow.Author.Tests.{eqb-false}
 use Rattle.std.specs.List.{All}
-use Rattle.std.proofs.lemmas.List.{at_drop_more, at_drop_all}
+use Rattle.std.proofs.lemmas.List.{at_drop_more}
 use Rattle.graph.specs.Shapes.{times, AllBelow}
 use Rattle.facts.specs.Order.{Below}
 use Rattle.flow.specs.Equations.{inflow}
@@ -37,9 +37,6 @@ module _ {F : Type 0} {top : F} {meet : F → F → F} (laws : Laws top meet) wh
   pub below_top : (a : F) → Below meet a top
   below_top a = laws.comm a top ∙ laws.neutral a
 
-  pub below_antisym : (a b : F) → Below meet a b → Below meet b a → a ≡ b
-  below_antisym a b p q = sym p ∙ laws.comm a b ∙ q
-
   pub below_left : (a b : F) → Below meet (meet a b) a
   below_left a b = laws.comm (meet a b) a ∙ sym (laws.assoc a a b) ∙ ap (λ x. meet x b) (laws.idem a)
 
@@ -57,9 +54,6 @@ module _ {F : Type 0} {top : F} {meet : F → F → F} (laws : Laws top meet) wh
     pub inflow_next : (f : ℕ → F) (ms : List ℕ) (k d : ℕ) (a : F) → k < length ms
         → meet (meet a (step (get_or ms k d) (f (get_or ms k d)))) (inflow top meet step f (drop (k + 1) ms)) ≡ meet a (inflow top meet step f (drop k ms))
     inflow_next f ms k d a h = let m = get_or ms k d in laws.assoc a (step m (f m)) _ ∙ sym (ap (meet a) (at_drop_more (inflow top meet step f) ms k d h))
-
-    pub inflow_end : (f : ℕ → F) (ms : List ℕ) (k : ℕ) (a : F) → length ms ≤ k → meet a (inflow top meet step f (drop k ms)) ≡ a
-    inflow_end f ms k a h = ap (meet a) (at_drop_all (inflow top meet step f) ms k h) ∙ below_top a
 
     pub inflow_mono : ((n : ℕ) (a b : F) → Below meet a b → Below meet (step n a) (step n b)) → (c : ℕ) (f g : ℕ → F) → ((n : ℕ) → n < c → Below meet (f n) (g n))
         → (ms : List ℕ) → AllBelow c ms → Below meet (inflow top meet step f ms) (inflow top meet step g ms)

@@ -4,3 +4,4 @@ pub mod Rings
 pub mod Visits
 pub mod Heights
 pub mod Falls
+pub mod Effects

@@ -30,6 +30,7 @@ impl<G: Graph, P: Problem> Equations<'_, G, P> {
     fn incoming(&self, facts: &[P::Fact; MOST_NODES], n: usize) -> P::Fact
         ensures { result ≡ inflow P.Fact.Fact.top P.Fact.Fact.meet (P.Problem.step self.now.problem.now) (λ m. get_or facts.now m P.Fact.Fact.top) ((G.Graph.shape self.now.graph.now).preds n) }
     {
+        // As a slice, whose size in memory the proof knows.
         let facts = facts.as_slice();
         let mut all = <P::Fact as Fact>::top();
         for &m in self.graph.predecessors(n) {

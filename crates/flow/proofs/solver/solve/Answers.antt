@@ -1,5 +1,4 @@
-use Rattle.std.proofs.Common.{ℕ, ◌-◌, ◌*◌, ◌<◌, ◌≤◌, length, get_or, set, replicate, sym, ap, ◌∙◌, subst, ap₂, le_of_lt, arith, length-set}
-use Rattle.std.proofs.lemmas.Nat.{mul-le}
+use Rattle.std.proofs.Common.{ℕ, ◌-◌, ◌*◌, ◌<◌, ◌≤◌, length, get_or, set, replicate, sym, ap, ◌∙◌, subst, ap₂, arith, length-set}
 use Rattle.std.proofs.lemmas.List.{length-replicate}
 use Rattle.graph.specs.Shapes.{AllBelow, Sized, SameEdges, times}
 use Rattle.flow.specs.Rings.{joined_all}
@@ -11,13 +10,6 @@ use Rattle.flow.proofs.solver.solve.Goals as goal
 
 laws : (g : given.Over) → Laws g.P.Fact.Fact.top g.P.Fact.Fact.meet
 laws g = let m = g.met.P.Fact.Fact in laws_of m.associative m.commutative m.idempotent m.neutral
-
-pub overflow_mul-falls_left : goal.overflow_mul-falls_left
-overflow_mul-falls_left g c =
-    let most = (g.met.G.Graph.sized c.args.g.now).most in
-    let few : c.count-count.result ≤ 288 = omega (arith, c.count-count.ensures) in
-    let p = mul-le c.count-count.result c.falls_at_most.result 288 4294967296 few (le_of_lt c.falls_at_most.type_inv) in
-    omega arith
 
 pub loop-n-init : goal.loop-n-init
 loop-n-init g c =
