@@ -1,7 +1,7 @@
 // Which nodes of a graph the entry reaches, and which reach the exit, told by depths.
 #![tactic(auto)]
 
-ghost use Rattle.std.specs.Prelude.{ℕ, ◌≤◌, T, length, slice_index_or};
+ghost use Rattle.std.specs.Prelude.{◌≤◌, T, slice_index_or};
 ghost use Rattle.facts.specs.declared.depth.Depth.TheVariants.{Missing};
 ghost use Rattle.facts.specs.Depths.{missing_depth};
 ghost use Rattle.graph.specs.Paths.{Reaches};
@@ -9,19 +9,14 @@ ghost use Rattle.reach.specs.Lowest.{Lowest};
 
 use facts::Depth;
 use flow::{Distance, solve};
-use graph::{Graph, Reversed};
+use graph::{Graph, MOST_NODES, Reversed};
 
 // The lowest node without a depth.
-fn first_missing(depths: &[Depth], count: usize) -> Option<usize>
-    requires { count ≤ length depths.now }
+fn first_missing(depths: &[Depth; MOST_NODES], count: usize) -> Option<usize>
+    requires { count ≤ 288 }
     ensures { Lowest (λ n. T (missing_depth (slice_index_or depths.now n Missing)) → ⊥) count result }
 {
-    for n in 0..count {
-        if depths[n].is_missing() {
-            return Some(n);
-        }
-    }
-    None
+    depths[..count].iter().position(|depth| depth.is_missing())
 }
 
 // The lowest node that the entry cannot reach.
