@@ -7,17 +7,21 @@ use Rattle.std.proofs.lemmas.Bool.{and_parts, and_from, ltb-true, lt-ltb, eq-eqb
 use Rattle.std.proofs.lemmas.Bool.Decides.{nat_tests}
 use Rattle.graph.specs.declared.edge.Edge.{Edge}
 use Rattle.graph.specs.Edges.{put, heads_from, tails_to, turned_edge, within}
-use Rattle.graph.specs.Rows.{all_below}
 use Rattle.graph.specs.Shapes.{times, AllBelow}
 
 -- every number of a list is below c
 
-pub below_fact : (c : ℕ) (l : List ℕ) → all_below c l ≡ true → AllBelow c l
+pub below_fact : (c : ℕ) (l : List ℕ) → All (λ n. n < c) l → AllBelow c l
 below_fact c [] h = tt
-below_fact c (n ∷ l) h = let p = and_parts (nat_lt n c) (all_below c l) h in (ltb-true n c p.0, below_fact c l p.1)
+below_fact c (n ∷ l) h = (h 0 n (omega arith), below_fact c l (λ k d i. h (suc k) d (omega arith)))
 
-below_put : (b : Bool) (c x : ℕ) (l : List ℕ) → nat_lt x c ≡ true → all_below c l ≡ true → all_below c (put b x l) ≡ true
-below_put true c x l h k = and_from (nat_lt x c) (all_below c l) h k
+pub fact_below : (c : ℕ) (l : List ℕ) → AllBelow c l → All (λ n. n < c) l
+fact_below c [] h k d i = absurd (omega arith)
+fact_below c (n ∷ l) h zero d i = h.0
+fact_below c (n ∷ l) h (suc k) d i = fact_below c l h.1 k d (omega arith)
+
+below_put : (b : Bool) (c x : ℕ) (l : List ℕ) → x < c → AllBelow c l → AllBelow c (put b x l)
+below_put true c x l h k = (h, k)
 below_put false c x l h k = k
 
 below_rest : (b : Bool) (c x : ℕ) (l : List ℕ) → AllBelow c (put b x l) → AllBelow c l
@@ -67,14 +71,11 @@ every_within c [] h k d i = absurd (omega arith)
 every_within c (e ∷ es) h zero d i = let p = within_parts c e es h in (ltb-true e.tail c p.0, ltb-true e.head c p.1)
 every_within c (e ∷ es) h (suc k) d i = every_within c es (within_parts c e es h).2 k d (omega arith)
 
-pub heads_below : (c : ℕ) (es : List Edge) (m : ℕ) → within c es ≡ true → all_below c (heads_from m es) ≡ true
-heads_below c [] m h = refl
-heads_below c (e ∷ es) m h =
-    let p = within_parts c e es h in
-    below_put (e.tail == m) c e.head (heads_from m es) p.1 (heads_below c es m p.2)
-
 pub heads_in : (c : ℕ) (es : List Edge) (m : ℕ) → within c es ≡ true → AllBelow c (heads_from m es)
-heads_in c es m h = below_fact c (heads_from m es) (heads_below c es m h)
+heads_in c [] m h = tt
+heads_in c (e ∷ es) m h =
+    let p = within_parts c e es h in
+    below_put (e.tail == m) c e.head (heads_from m es) (ltb-true e.head c p.1) (heads_in c es m p.2)
 
 pub tails_in : (c : ℕ) (es : List Edge) (n : ℕ) → within c es ≡ true → AllBelow c (tails_to n es)
 tails_in c es n h = subst (AllBelow c) (tails_turned es n) (heads_in c (map turned_edge es) n (within_turned c es ∙ h))

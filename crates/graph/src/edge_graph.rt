@@ -1,7 +1,7 @@
 // A graph made from its edges.
-ghost use Rattle.std.specs.Prelude.{◌≡◌, ℕ, ◌<◌, ◌≤◌, ◌↔◌, true, IsTrue, All, map, length};
+ghost use Rattle.std.specs.Prelude.{◌≡◌, ℕ, ◌<◌, ◌≤◌, ◌↔◌, IsTrue, All, map, length};
 ghost use Rattle.graph.specs.Edges.{turned_edge};
-ghost use Rattle.graph.specs.Rows.{row, row_values_below, all_below};
+ghost use Rattle.graph.specs.Rows.{row, row_values_below};
 ghost use Rattle.graph.specs.Shapes.{times};
 
 use crate::adjacency::{Adjacency, MOST_EDGES};
@@ -20,8 +20,8 @@ pub struct EdgeGraph {
     ghost most: { count ≤ 288 },
     ghost enters: { entry < count },
     ghost leaves: { exit < count },
-    ghost heads: { (n : ℕ) → all_below count (row_values_below count outgoing n) ≡ true },
-    ghost tails: { (n : ℕ) → all_below count (row_values_below count incoming n) ≡ true },
+    ghost heads: { (n : ℕ) → All (λ m. m < count) (row_values_below count outgoing n) },
+    ghost tails: { (n : ℕ) → All (λ m. m < count) (row_values_below count incoming n) },
     ghost few_heads: { (n : ℕ) → length (row_values_below count outgoing n) ≤ 288 },
     ghost few_tails: { (n : ℕ) → length (row_values_below count incoming n) ≤ 288 },
     ghost same: { (m n : ℕ) → times n (row_values_below count outgoing m) ≡ times m (row_values_below count incoming n) },
