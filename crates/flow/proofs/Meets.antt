@@ -1,9 +1,10 @@
 -- Meets, and what comes in over edges. Assumes nothing.
-use Rattle.std.proofs.Common.{◌≡◌, ℕ, zero, suc, ◌+◌, ◌<◌, ◌≤◌, Bool, true, false, cond, eqb, List, [], ◌∷◌, length, get_or, drop, sym, refl, ap, subst, ◌∙◌, ap₂, arith}
+use Rattle.std.proofs.Common.{◌≡◌, ℕ, ◌+◌, ◌<◌, ◌≤◌, Bool, true, false, cond, eqb, List, [], ◌∷◌, length, get_or, drop, sym, refl, ap, subst, ◌∙◌, ap₂, arith}
 use borrow.Author.Tests.{eqb-false}
 use Rattle.std.specs.List.{All}
 use Rattle.std.proofs.lemmas.List.{at_drop_more}
 use Rattle.graph.specs.Shapes.{times, AllBelow}
+use Rattle.graph.specs.EdgeLists.{fact_below}
 use Rattle.facts.specs.Order.{Below}
 use Rattle.flow.specs.Equations.{inflow}
 
@@ -16,16 +17,9 @@ pub record Laws {F : Type 0} (top : F) (meet : F → F → F) : Type 0 where
 pub laws_of : {F : Type 0} {top : F} {meet : F → F → F} → ((a b c : F) → meet (meet a b) c ≡ meet a (meet b c)) → ((a b : F) → meet a b ≡ meet b a) → ((a : F) → meet a a ≡ a) → ((a : F) → meet top a ≡ a) → Laws top meet
 laws_of p q r s = record { assoc = p; comm = q; idem = r; neutral = s }
 
--- lists read place by place
-
-below_at : (c : ℕ) (l : List ℕ) (k d : ℕ) → AllBelow c l → k < length l → get_or l k d < c
-below_at c [] k d h i = absurd (omega arith)
-below_at c (x ∷ xs) zero d h i = h.0
-below_at c (x ∷ xs) (suc k) d h i = below_at c xs k d h.1 (omega arith)
-
 -- what stands in the list of a node's neighbours is a node
 pub all_nodes : (c : ℕ) (l ms : List ℕ) → c ≤ 288 → AllBelow c l → ms ≡ l → All (λ n. n < 288) ms
-all_nodes c l ms most h e k d i = omega (arith, below_at c ms k d (subst (AllBelow c) (sym e) h) i)
+all_nodes c l ms most h e k d i = omega (arith, fact_below c ms (subst (AllBelow c) (sym e) h) k d i)
 
 module _ {F : Type 0} {top : F} {meet : F → F → F} (laws : Laws top meet) where
   pub below_refl : (a : F) → Below meet a a

@@ -1,8 +1,7 @@
-use Rattle.std.proofs.Common.{◌≡◌, ℕ, zero, suc, ◌+◌, ◌<◌, List, length, get_or, set, replicate, sym, ap, ◌∙◌, subst, arith, length-set, get_or-set_other, get_or-set_same}
+use Rattle.std.proofs.Common.{◌≡◌, ℕ, zero, suc, ◌+◌, ◌<◌, List, length, get_or, set, replicate, ap, ◌∙◌, arith, length-set, get_or-set_other, get_or-set_same}
 use Rattle.std.proofs.lemmas.List.{take_at, length-replicate, get_or-replicate}
-use Rattle.std.proofs.lemmas.List.Edits.{fill_by_more}
 use Rattle.graph.specs.declared.edge.Edge.{Edge}
-use Rattle.graph.proofs.Flat.{flat, flat_grown, length_more, flat_short, starts_rise, starts_short, found}
+use Rattle.graph.proofs.Flat.{flat, length_more, flat_short, starts_rise, starts_short, found}
 use Rattle.graph.proofs.adjacency.Adjacency.new.Goals as goal
 
 pub push_heads-requires : goal.push_heads-requires
@@ -24,20 +23,6 @@ loop-n-init c =
       before = first_before (length c.args.edges.now) c.args.edges.now;
       behind = λ i l m. get_or-set_other all 0 i 0 0 (λ e. omega arith) ∙ get_or-replicate 289 i (length c.args.edges.now) 0 (omega arith);
       long = length-set all 0 0 ∙ length-replicate 289 (length c.args.edges.now);
-    }
-
-pub loop-n-preserved : goal.loop-n-preserved
-loop-n-preserved c =
-    let es = c.args.edges.now in
-    let n = c.loop-n.n in
-    let grown = flat_grown n es c.loop-n.invariant.in_order c.push_heads.ensures in
-    let long : c.len.result ≡ length (flat (n + 1) es) = c.len.ensures.value ∙ ap length grown in
-    record {
-      in_order = grown;
-      before = subst (λ (x : ℕ). (i : ℕ) → i < (n + 1) + 1 → get_or (set c.loop-n.starts (n + 1) x) i 0 ≡ length (flat i es)) (sym long)
-          (fill_by_more (λ i. length (flat i es)) c.loop-n.starts (n + 1) 0 (omega (arith, c.loop-n.invariant.long)) c.loop-n.invariant.before);
-      behind = λ i l m. get_or-set_other c.loop-n.starts (n + 1) i c.len.result 0 (λ e. omega arith) ∙ c.loop-n.invariant.behind i (omega arith) m;
-      long = length-set c.loop-n.starts (n + 1) c.len.result ∙ c.loop-n.invariant.long;
     }
 
 pub invariant_of-result : goal.invariant_of-result
