@@ -63,15 +63,16 @@ pub fn solve<G: Graph, P: Problem>(g: &G, p: &P) -> [P::Fact; MOST_NODES]
     let mut facts = [<P::Fact as Fact>::top(); MOST_NODES];
     facts[first] = p.at_entry();
     let mut queue = Queue::of_all(count);
-    // Nodes wait again only after a fall, and each node's fact falls at most HEIGHT times.
+    // Counted only to prove that this ends: nodes wait again only after a fall, and each node's fact
+    // falls at most HEIGHT times.
     let mut falls_left = count * p.falls_at_most() as usize;
     while let Some(n) = queue.pop() {
-        if n != first {
-            if let Some(new) = equations.revised(&facts, n) {
-                facts[n] = new;
-                queue.push_all(g.successors(n));
-                falls_left -= 1;
-            }
+        if n != first
+            && let Some(new) = equations.revised(&facts, n)
+        {
+            facts[n] = new;
+            queue.push_all(g.successors(n));
+            falls_left -= 1;
         }
     }
     facts

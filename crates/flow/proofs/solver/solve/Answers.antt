@@ -61,11 +61,11 @@ push_all-requires g c = let z = g.met.G.Graph.sized c.args.g.now in all_nodes _ 
 few : (g : given.Over) (c : goal.After-push_all g) → length c.push_all.new.self ≤ 288
 few g c = c.push_all.ensures.few (omega (arith, ap length c.in-Some.ensures, c.loop-n.invariant.few))
 
-pub loop-n-smaller-in-Some-revised : goal.loop-n-smaller-in-Some-revised
-loop-n-smaller-in-Some-revised g c = turn_less _ _ _ _ _ c.in-Some.ensures (fallen g c).0 (few g c)
+pub loop-n-smaller-in-Some : goal.loop-n-smaller-in-Some
+loop-n-smaller-in-Some g c = turn_less _ _ _ _ _ c.in-Some.ensures (fallen g c).0 (few g c)
 
-pub loop-n-preserved-in-Some-revised : goal.loop-n-preserved-in-Some-revised
-loop-n-preserved-in-Some-revised g c = record {
+pub loop-n-preserved-in-Some : goal.loop-n-preserved-in-Some
+loop-n-preserved-in-Some g c = record {
   long = length-set c.loop-n.facts c.in-Some.n c.in-Some-revised.new ∙ c.loop-n.invariant.long;
   few = few g c;
   going = turn_table (laws g) (sized g c) (edges g c) (g.met.P.Problem.monotone c.args.p.now) (here g c) c.push_all.new.self
