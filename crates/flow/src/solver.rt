@@ -51,27 +51,24 @@ impl<G: Graph, P: Problem> Equations<'_, G, P> {
 
 // The entry has its given fact, any other node what comes in there, and every other solution lies
 // below this one. Past the last node stands the top.
-pub fn solve<G: Graph, P: Problem>(g: &G, p: &P) -> [P::Fact; MOST_NODES]
-    ensures { Solution (G.Graph.shape g.now) P.Fact.Fact.top P.Fact.Fact.meet (P.Problem.given p.now) (P.Problem.step p.now) (λ n. get_or result n P.Fact.Fact.top) }
+pub fn solve<G: Graph, P: Problem>(graph: &G, problem: &P) -> [P::Fact; MOST_NODES]
+    ensures { Solution (G.Graph.shape graph.now) P.Fact.Fact.top P.Fact.Fact.meet (P.Problem.given problem.now) (P.Problem.step problem.now) (λ n. get_or result n P.Fact.Fact.top) }
 {
-    let equations = Equations {
-        graph: g,
-        problem: p,
-    };
-    let first = g.entry();
-    let count = g.count();
+    let equations = Equations { graph, problem };
+    let first = graph.entry();
+    let count = graph.count();
     let mut facts = [<P::Fact as Fact>::top(); MOST_NODES];
-    facts[first] = p.at_entry();
+    facts[first] = problem.at_entry();
     let mut queue = Queue::of_all(count);
     // Counted only to prove that this ends: nodes wait again only after a fall, and each node's fact
     // falls at most HEIGHT times.
-    let mut falls_left = count * p.falls_at_most() as usize;
+    let mut falls_left = count * problem.falls_at_most() as usize;
     while let Some(n) = queue.pop() {
         if n != first
             && let Some(new) = equations.revised(&facts, n)
         {
             facts[n] = new;
-            queue.push_all(g.successors(n));
+            queue.push_all(graph.successors(n));
             falls_left -= 1;
         }
     }

@@ -13,7 +13,7 @@ laws g = let m = g.met.P.Fact.Fact in laws_of m.associative m.commutative m.idem
 
 pub loop-n-init : goal.loop-n-init
 loop-n-init g c =
-    let x = c.args.g.now in
+    let x = c.args.graph.now in
     let s = g.G.Graph.shape x in
     let ws = c.of_all-queue.result in
     let inside : AllBelow s.count ws = subst (λ (k : ℕ). AllBelow k ws) c.count-count.ensures c.of_all-queue.ensures.inside in
@@ -21,14 +21,14 @@ loop-n-init g c =
     record {
       long = length-set (replicate 288 c.top-facts.result) c.entry-first.result c.at_entry.result ∙ length-replicate 288 c.top-facts.result;
       few = c.of_all-queue.ensures.few;
-      going = start_table (laws g) (g.met.G.Graph.sized x) (g.met.G.Graph.edges x) (g.met.P.Problem.monotone c.args.p.now)
+      going = start_table (laws g) (g.met.G.Graph.sized x) (g.met.G.Graph.edges x) (g.met.P.Problem.monotone c.args.problem.now)
           c.top-facts.result c.at_entry.result c.entry-first.result ws c.top-facts.ensures c.at_entry.ensures c.entry-first.ensures inside each;
       paid = paid_begin g.P.Fact.Fact.meet g.P.Problem.height s.count _ _ (ap₂ ◌*◌ c.count-count.ensures c.falls_at_most.ensures);
     }
 
 -- a visit at which the fact of a node fell
 module _ (g : given.Over) (c : goal.After-push_all g) where
-  abbrev here : Visit (g.G.Graph.shape c.args.g.now) g.P.Fact.Fact.top g.P.Fact.Fact.meet (g.P.Problem.given c.args.p.now) (g.P.Problem.step c.args.p.now)
+  abbrev here : Visit (g.G.Graph.shape c.args.graph.now) g.P.Fact.Fact.top g.P.Fact.Fact.meet (g.P.Problem.given c.args.problem.now) (g.P.Problem.step c.args.problem.now)
   here = record {
     facts = c.loop-n.facts;
     node = c.in-Some.n;
@@ -42,21 +42,21 @@ module _ (g : given.Over) (c : goal.After-push_all g) where
     comes = c.in-Some-revised.ensures.0;
   }
 
-  abbrev sized : Sized (g.G.Graph.shape c.args.g.now)
-  sized = g.met.G.Graph.sized c.args.g.now
+  abbrev sized : Sized (g.G.Graph.shape c.args.graph.now)
+  sized = g.met.G.Graph.sized c.args.graph.now
 
-  abbrev edges : SameEdges (g.G.Graph.shape c.args.g.now)
-  edges = g.met.G.Graph.edges c.args.g.now
+  abbrev edges : SameEdges (g.G.Graph.shape c.args.graph.now)
+  edges = g.met.G.Graph.edges c.args.graph.now
 
-  fallen : (1 ≤ c.loop-n.falls_left) × Paid g.P.Fact.Fact.meet g.P.Problem.height (g.G.Graph.shape c.args.g.now).count
+  fallen : (1 ≤ c.loop-n.falls_left) × Paid g.P.Fact.Fact.meet g.P.Problem.height (g.G.Graph.shape c.args.graph.now).count
       (λ m. get_or (set c.loop-n.facts c.in-Some.n c.in-Some-revised.new) m g.P.Fact.Fact.top) (c.loop-n.falls_left - 1)
-  fallen = turn_falls_table (laws g) sized edges (g.met.P.Problem.monotone c.args.p.now) here g.met.P.Problem.falls c.in-Some-revised.ensures.1 c.loop-n.invariant.paid
+  fallen = turn_falls_table (laws g) sized edges (g.met.P.Problem.monotone c.args.problem.now) here g.met.P.Problem.falls c.in-Some-revised.ensures.1 c.loop-n.invariant.paid
 
 pub overflow_sub-falls_left : goal.overflow_sub-falls_left
 overflow_sub-falls_left g c = (fallen g c).0
 
 pub push_all-requires : goal.push_all-requires
-push_all-requires g c = let z = g.met.G.Graph.sized c.args.g.now in all_nodes _ _ c.successors.result.now z.most (z.succs_in c.in-Some.n) c.successors.ensures
+push_all-requires g c = let z = g.met.G.Graph.sized c.args.graph.now in all_nodes _ _ c.successors.result.now z.most (z.succs_in c.in-Some.n) c.successors.ensures
 
 few : (g : given.Over) (c : goal.After-push_all g) → length c.push_all.new.self ≤ 288
 few g c = c.push_all.ensures.few (omega (arith, ap length c.in-Some.ensures, c.loop-n.invariant.few))
@@ -68,7 +68,7 @@ pub loop-n-preserved-in-Some : goal.loop-n-preserved-in-Some
 loop-n-preserved-in-Some g c = record {
   long = length-set c.loop-n.facts c.in-Some.n c.in-Some-revised.new ∙ c.loop-n.invariant.long;
   few = few g c;
-  going = turn_table (laws g) (sized g c) (edges g c) (g.met.P.Problem.monotone c.args.p.now) (here g c) c.push_all.new.self
+  going = turn_table (laws g) (sized g c) (edges g c) (g.met.P.Problem.monotone c.args.problem.now) (here g c) c.push_all.new.self
       (c.push_all.ensures.joins ∙ ap (λ ms. joined_all ms c.pop.new.self) c.successors.ensures);
   paid = (fallen g c).1;
 }

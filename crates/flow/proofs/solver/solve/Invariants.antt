@@ -7,11 +7,11 @@ abbrev pub invariant-loop-n : goal.invariant-loop-n
 invariant-loop-n g l =
     let top = g.P.Fact.Fact.top in
     let meet = g.P.Fact.Fact.meet in
-    let s = g.G.Graph.shape l.g in
+    let s = g.G.Graph.shape l.graph in
     record {
       long : length l.facts ≡ 288;
       few : length l.queue ≤ 288;
-      going : Going s top meet (g.P.Problem.given l.p) (g.P.Problem.step l.p) (λ n. get_or l.facts n top) l.queue;
+      going : Going s top meet (g.P.Problem.given l.problem) (g.P.Problem.step l.problem) (λ n. get_or l.facts n top) l.queue;
       paid : Paid meet g.P.Problem.height s.count (λ n. get_or l.facts n top) l.falls_left;
     }
 
