@@ -21,8 +21,7 @@ impl<G: Graph> Reversed<G> {
     pub fn back(self) -> G
         ensures { result ≡ self.of }
     {
-        let Reversed { of } = self;
-        of
+        self.of
     }
 }
 
