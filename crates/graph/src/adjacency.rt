@@ -11,7 +11,7 @@ use arrayvec::ArrayVec;
 pub(crate) const MOST_EDGES: usize = 384;
 
 // The neighbours of node n stand from starts[n] up to starts[n + 1] in `ends`.
-// An array and not an `ArrayVec`, which is not `Copy` as a graph is.
+// Arrays and not an `ArrayVec`, which is not `Copy` as a graph is.
 #[derive(Clone, Copy)]
 pub(crate) struct Adjacency {
     starts: [usize; MOST_NODES + 1],
@@ -22,7 +22,7 @@ pub(crate) struct Adjacency {
 
 // The heads of the edges from n come behind those that are there.
 fn push_heads(edges: &[Edge], n: usize, heads: &mut ArrayVec<usize, MOST_EDGES>)
-    requires { array_vec_len heads.old + length (heads_from n edges.now) ≤ 384 }
+    requires { array_vec_len heads.old + length (heads_from n edges.now) ≤ MOST_EDGES }
     ensures { heads.new.items ≡ heads.old.items ++ heads_from n edges.now }
 {
     for edge in edges {
@@ -37,8 +37,8 @@ impl Adjacency {
 
     // The heads of the edges, by their tails.
     pub(crate) fn new(count: usize, edges: &[Edge]) -> Adjacency
-        requires few { count ≤ 288 }
-        requires short { length edges.now ≤ 384 }
+        requires few { count ≤ MOST_NODES }
+        requires short { length edges.now ≤ MOST_EDGES }
         ensures { (n : ℕ) → n < count → row result n ≡ heads_from n edges.now }
     {
         // What is no node has no neighbours, and its list starts at the end.
@@ -56,7 +56,7 @@ impl Adjacency {
 
     // The neighbours of node n.
     pub(crate) fn row(&self, n: usize) -> &[usize]
-        requires { n < 288 }
+        requires { n < MOST_NODES }
         ensures { result.now ≡ row self.now n }
     {
         &self.ends[self.starts[n]..self.starts[n + 1]]

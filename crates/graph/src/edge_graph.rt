@@ -9,7 +9,7 @@ use crate::edge::Edge;
 use crate::flow_graph::{Graph, MOST_NODES};
 use arrayvec::ArrayVec;
 
-// Each node's successors and predecessors can be asked for by place without a search.
+// Each node's successors and predecessors are found without a search.
 #[derive(Clone, Copy)]
 pub struct EdgeGraph {
     count: usize,
@@ -38,7 +38,7 @@ fn all_within(count: usize, edges: &[Edge]) -> bool
 
 // The edges turned round.
 fn turned_round(edges: &[Edge]) -> ArrayVec<Edge, MOST_EDGES>
-    requires { length edges.now ≤ 384 }
+    requires { length edges.now ≤ MOST_EDGES }
     ensures { result.items ≡ map turned_edge edges.now }
 {
     let mut turned = ArrayVec::new();
@@ -48,10 +48,10 @@ fn turned_round(edges: &[Edge]) -> ArrayVec<Edge, MOST_EDGES>
     turned
 }
 
-// Whether no node has more than 288 neighbours.
+// Whether no node has more neighbours than a graph can have nodes.
 fn all_narrow(count: usize, lists: &Adjacency) -> bool
-    requires { count ≤ 288 }
-    ensures { IsTrue result ↔ ((n : ℕ) → n < count → length (row lists.now n) ≤ 288) }
+    requires { count ≤ MOST_NODES }
+    ensures { IsTrue result ↔ ((n : ℕ) → n < count → length (row lists.now n) ≤ MOST_NODES) }
 {
     (0..count).all(|n| lists.row(n).len() <= MOST_NODES)
 }
