@@ -38,10 +38,10 @@ impl Queue {
 
     // Every node below the count waits.
     pub(crate) fn of_all(count: usize) -> Queue
-        requires { count ≤ 288 }
+        requires { count ≤ MOST_NODES }
         ensures inside { AllBelow count result }
         ensures each { (n : ℕ) → n < count → 0 < times n result }
-        ensures few { length result ≤ 288 }
+        ensures few { length result ≤ MOST_NODES }
     {
         let mut queue = Queue::new();
         for n in 0..count {
@@ -52,9 +52,9 @@ impl Queue {
 
     // The node waits last, unless it waits already.
     pub(crate) fn push(&mut self, n: usize)
-        requires { n < 288 }
+        requires { n < MOST_NODES }
         ensures joins { self.new ≡ joined n self.old }
-        ensures few { length self.new ≤ 288 }
+        ensures few { length self.new ≤ MOST_NODES }
     {
         if !self.marks[n] {
             let at = (self.head + self.len) % MOST_NODES;
@@ -66,9 +66,9 @@ impl Queue {
 
     // Each of the nodes waits, in turn.
     pub(crate) fn push_all(&mut self, nodes: &[usize])
-        requires { All (λ n. n < 288) nodes.now }
+        requires { All (λ n. n < MOST_NODES) nodes.now }
         ensures joins { self.new ≡ joined_all nodes.now self.old }
-        ensures few { length self.old ≤ 288 → length self.new ≤ 288 }
+        ensures few { length self.old ≤ MOST_NODES → length self.new ≤ MOST_NODES }
     {
         for &n in nodes {
             self.push(n);

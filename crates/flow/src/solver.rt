@@ -41,7 +41,7 @@ impl<G: Graph, P: Problem> Equations<'_, G, P> {
 
     // What comes in at n, where that is lower than the fact there.
     fn revised(&self, facts: &[P::Fact; MOST_NODES], n: usize) -> Option<P::Fact>
-        requires { n < 288 }
+        requires { n < MOST_NODES }
         ensures { Revised P.Fact.Fact.meet (slice_index_or facts.now n P.Fact.Fact.top) (inflow P.Fact.Fact.top P.Fact.Fact.meet (P.Problem.step self.now.problem.now) (λ m. get_or facts.now m P.Fact.Fact.top) ((G.Graph.shape self.now.graph.now).preds n)) result }
     {
         let new = self.incoming(facts, n);

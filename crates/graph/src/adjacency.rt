@@ -2,6 +2,8 @@
 ghost use Rattle.std.specs.Prelude.{◌≡◌, ℕ, ◌+◌, ◌<◌, ◌≤◌, ◌++◌, length, slice_index};
 ghost use Rattle.arrayvec.specs.ArrayVec.{array_vec_len};
 ghost use Rattle.graph.specs.Edges.{heads_from};
+ghost use Rattle.graph.specs.declared.adjacency.TheConstants.{MOST_EDGES};
+ghost use Rattle.graph.specs.declared.flow_graph.TheConstants.{MOST_NODES};
 
 use crate::edge::Edge;
 use crate::flow_graph::MOST_NODES;
@@ -16,8 +18,8 @@ pub(crate) const MOST_EDGES: usize = 384;
 pub(crate) struct Adjacency {
     starts: [usize; MOST_NODES + 1],
     ends: [usize; MOST_EDGES],
-    ghost rising: { (n : ℕ) → n < 288 → slice_index starts n ≤ slice_index starts (n + 1) },
-    ghost inside: { (n : ℕ) → n ≤ 288 → slice_index starts n ≤ 384 },
+    ghost rising: { (n : ℕ) → n < MOST_NODES → slice_index starts n ≤ slice_index starts (n + 1) },
+    ghost inside: { (n : ℕ) → n ≤ MOST_NODES → slice_index starts n ≤ MOST_EDGES },
 }
 
 // The heads of the edges from n come behind those that are there.

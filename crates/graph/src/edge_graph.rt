@@ -3,6 +3,7 @@ ghost use Rattle.std.specs.Prelude.{◌≡◌, ℕ, ◌<◌, ◌≤◌, ◌↔�
 ghost use Rattle.graph.specs.Edges.{turned_edge};
 ghost use Rattle.graph.specs.Rows.{row, row_values_below};
 ghost use Rattle.graph.specs.Shapes.{times};
+ghost use Rattle.graph.specs.declared.flow_graph.TheConstants.{MOST_NODES};
 
 use crate::adjacency::{Adjacency, MOST_EDGES};
 use crate::edge::Edge;
@@ -17,13 +18,13 @@ pub struct EdgeGraph {
     exit: usize,
     outgoing: Adjacency,
     incoming: Adjacency,
-    ghost most: { count ≤ 288 },
+    ghost most: { count ≤ MOST_NODES },
     ghost enters: { entry < count },
     ghost leaves: { exit < count },
     ghost heads: { (n : ℕ) → All (λ m. m < count) (row_values_below count outgoing n) },
     ghost tails: { (n : ℕ) → All (λ m. m < count) (row_values_below count incoming n) },
-    ghost few_heads: { (n : ℕ) → length (row_values_below count outgoing n) ≤ 288 },
-    ghost few_tails: { (n : ℕ) → length (row_values_below count incoming n) ≤ 288 },
+    ghost few_heads: { (n : ℕ) → length (row_values_below count outgoing n) ≤ MOST_NODES },
+    ghost few_tails: { (n : ℕ) → length (row_values_below count incoming n) ≤ MOST_NODES },
     ghost same: { (m n : ℕ) → times n (row_values_below count outgoing m) ≡ times m (row_values_below count incoming n) },
 }
 

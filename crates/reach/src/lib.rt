@@ -13,7 +13,7 @@ use graph::{Graph, MOST_NODES, Reversed};
 
 // The lowest node without a depth.
 fn first_missing(depths: &[Depth; MOST_NODES], count: usize) -> Option<usize>
-    requires { count ≤ 288 }
+    requires { count ≤ MOST_NODES }
     ensures { Lowest (λ n. T (missing_depth (slice_index_or depths.now n Missing)) → ⊥) count result }
 {
     depths[..count].iter().position(|depth| depth.is_missing())
