@@ -1,10 +1,8 @@
 -- Those who wait, once others have come. Assumes nothing.
-use Rattle.std.proofs.Common.{◌≡◌, ℕ, ◌+◌, ◌<◌, Bool, true, false, cond, eqb, List, [], ◌∷◌, ◌++◌, drop, Some, None, refl, ap, subst, arith, eq-eqb, eqb-true}
+use Rattle.std.proofs.Common.{◌≡◌, ℕ, ◌+◌, ◌<◌, Bool, true, false, cond, eqb, List, [], ◌∷◌, ◌++◌, refl, ap, subst, arith, eq-eqb, eqb-true}
 use borrow.Author.Tests.{eqb-false}
-use Rattle.std.specs.List.{slice_get}
 use Rattle.graph.specs.Shapes.{times, AllBelow}
 use Rattle.flow.specs.Rings.{joined, joined_all}
-use Rattle.flow.proofs.Meets.{nth_drop, nth_end}
 use Rattle.flow.proofs.Ringed.{times_snoc, below_snoc}
 
 pub joined_keeps : (m n : ℕ) (ws : List ℕ) → 0 < times m ws → 0 < times m (joined n ws)
@@ -43,9 +41,3 @@ all_in m (n ∷ ns) ws h = by (eqb n m) refl h (λ k. all_in m ns (joined n ws) 
 pub all_below_joined : (c : ℕ) (ns ws : List ℕ) → AllBelow c ns → AllBelow c ws → AllBelow c (joined_all ns ws)
 all_below_joined c [] ws k h = h
 all_below_joined c (n ∷ ns) ws k h = all_below_joined c ns (joined n ws) k.1 (joined_below c n ws h k.0)
-
-pub all_next : (ns ws : List ℕ) (k m : ℕ) → slice_get ns k ≡ Some m → joined_all (drop k ns) ws ≡ joined_all (drop (k + 1) ns) (joined m ws)
-all_next ns ws k m e = ap (λ r. joined_all r ws) (nth_drop ns k m e)
-
-pub all_end : (ns ws : List ℕ) (k : ℕ) → slice_get ns k ≡ None → joined_all (drop k ns) ws ≡ ws
-all_end ns ws k e = ap (λ r. joined_all r ws) (nth_end ns k e)

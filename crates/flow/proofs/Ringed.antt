@@ -1,13 +1,10 @@
 -- Queues: what a push and a pop do to the list of those who wait. Assumes nothing.
-use Rattle.std.proofs.Common.{◌≡◌, ℕ, zero, suc, ◌+◌, ◌-◌, ◌%◌, ◌<◌, ◌≤◌, Bool, true, false, cond, ◌&&◌, eqb, ltb, List, [], ◌∷◌, ◌++◌, length, get_or, set, replicate, sym, refl, ap, ◌∙◌, subst, ap₂, inl, inr, eq-or-lt_of_le, add-one, arith, length-set, get_or-set_other, get_or-set_same, ltb-true, eq-eqb, eqb-true}
+use Rattle.std.proofs.Common.{◌≡◌, ℕ, zero, suc, ◌+◌, ◌-◌, ◌%◌, ◌<◌, ◌≤◌, Bool, true, false, cond, eqb, List, [], ◌∷◌, ◌++◌, length, get_or, set, replicate, sym, refl, ap, ◌∙◌, subst, ap₂, inl, inr, eq-or-lt_of_le, add-one, arith, length-set, get_or-set_other, get_or-set_same, eq-eqb, eqb-true}
 use borrow.Author.Tests.{eqb-false}
-use Rattle.std.proofs.lemmas.Bool.{lt-ltb}
 use Rattle.std.proofs.lemmas.Bool.Decides.{nat_tests}
 use Rattle.std.proofs.lemmas.List.{length-replicate, get_or-replicate}
 use Rattle.graph.specs.Shapes.{times, AllBelow}
-use Rattle.flow.specs.Rings.{places, joined, all_below}
-use Rattle.flow.specs.Waits.{waiting}
-use Rattle.flow.specs.declared.queue.Queue.{Queue}
+use Rattle.flow.specs.Rings.{places, joined, Ring}
 
 pub places_mod : (ring : List ℕ) (h n : ℕ) → places ring (h % 288) n ≡ places ring h n
 places_mod ring h zero = refl
@@ -99,142 +96,104 @@ room k n ws below once l z = let a = tot_all k ws below in let b = tot_lt k n ws
 
 -- ---- the three calls
 
-pub record Sound (ring : List ℕ) (marks : List Bool) (head len : ℕ) : Type 0 where
-  pub ring_long : length ring ≡ 288
-  pub marks_long : length marks ≡ 288
-  pub head_in : head < 288
-  pub len_in : len ≤ 288
-  pub below : AllBelow 288 (places ring head len)
-  pub marked : (n : ℕ) → n < 288 → times n (places ring head len) ≡ cond (get_or marks n false) 1 0
-
-to_all : (c : ℕ) (ws : List ℕ) → all_below c ws ≡ true → AllBelow c ws
-to_all c [] h = tt
-to_all c (w ∷ ws) h = by (ltb w c) refl h (λ k. to_all c ws k)
-  where
-    by : (b : Bool) → ltb w c ≡ b → (b && all_below c ws) ≡ true → (all_below c ws ≡ true → AllBelow c ws) → (w < c) × AllBelow c ws
-    by true e k ih = (ltb-true w c e, ih k)
-    by false e k ih = absurd (let z : ◌≡◌ {A = ℕ} 0 1 = cc in omega arith)
-
-from_all : (c : ℕ) (ws : List ℕ) → AllBelow c ws → all_below c ws ≡ true
-from_all c [] h = refl
-from_all c (w ∷ ws) h = ap₂ ◌&&◌ (lt-ltb w c h.0) (from_all c ws h.1)
-
-sound : (q : Queue) → Sound q.ring q.marks q.head q.len
-sound q = record { ring_long = q.rings; marks_long = q.flags; head_in = q.starts; len_in = q.fits; below = to_all 288 (waiting q) q.nodes; marked = q.marked }
-
--- the ghost fields, one in the other
-abbrev pub Fields : List ℕ → List Bool → ℕ → ℕ → Type 0
-Fields ring marks head len =
-    record {
-      rings : length ring ≡ 288;
-      flags : length marks ≡ 288;
-      starts : head < 288;
-      fits : len ≤ 288;
-      nodes : all_below 288 (places ring head len) ≡ true;
-      marked : (n : ℕ) → n < 288 → times n (places ring head len) ≡ cond (get_or marks n false) 1 0;
-    }
-
-pub fields : (ring : List ℕ) (marks : List Bool) (head len : ℕ) → Sound ring marks head len → Fields ring marks head len
-fields ring marks head len s = record { rings = s.ring_long; flags = s.marks_long; starts = s.head_in; fits = s.len_in; nodes = from_all 288 _ s.below; marked = s.marked }
-
-once : (q : Queue) → (m : ℕ) → m < 288 → times m (waiting q) ≤ 1
-once q m h = let e = q.marked m h in grind (arith, nat_tests)
-
-pub fresh_sound : Sound (replicate 288 0) (replicate 288 false) 0 0
-fresh_sound = record {
+pub fresh_ring : Ring (replicate 288 0) (replicate 288 false) 0 0
+fresh_ring = record {
   ring_long = length-replicate {A = ℕ} 288 0;
   marks_long = length-replicate 288 false;
   head_in = omega arith;
   len_in = omega arith;
-  below = tt;
+  nodes = tt;
   marked = λ n h. sym (ap (λ b. cond b 1 0) (get_or-replicate 288 n false false h));
 }
 
-pub sound_short : (q : Queue) → length (waiting q) ≤ 288
-sound_short q = let a = length_places q.ring q.head q.len in let b = q.fits in omega arith
+module _ {ring : List ℕ} {marks : List Bool} {head len : ℕ} (s : Ring ring marks head len) where
+  abbrev waiting : List ℕ
+  waiting = places ring head len
 
-module _ (q : Queue) where
-  s : Sound q.ring q.marks q.head q.len
-  s = sound q
+  pub ring_short : length (places ring head len) ≤ 288
+  ring_short = let a = length_places ring head len in let b = s.len_in in omega arith
+
+  once : (m : ℕ) → m < 288 → times m waiting ≤ 1
+  once m h = let e = s.marked m h in grind (arith, nat_tests)
 
   abbrev pub pushed : ℕ → List ℕ
-  pushed n = places (set q.ring ((q.head + q.len) % 288) n) q.head (q.len + 1)
+  pushed n = places (set ring ((head + len) % 288) n) head (len + 1)
 
-  module _ (n : ℕ) (h : n < 288) (free : get_or q.marks n false ≡ false) where
-    absent : times n (waiting q) ≡ 0
+  module _ (n : ℕ) (h : n < 288) (free : get_or marks n false ≡ false) where
+    absent : times n waiting ≡ 0
     absent = s.marked n h ∙ ap (λ b. cond b 1 0) free
 
-    pub push_room : q.len < 288
-    push_room = let a = room 288 n (waiting q) s.below (once q) h absent in let b = length_places q.ring q.head q.len in omega arith
+    pub push_room : len < 288
+    push_room = let a = room 288 n waiting s.nodes once h absent in let b = length_places ring head len in omega arith
 
-    push_list : pushed n ≡ waiting q ++ (n ∷ [])
-    push_list = places_more q.ring q.head q.len n s.ring_long push_room
+    push_list : pushed n ≡ waiting ++ (n ∷ [])
+    push_list = places_more ring head len n s.ring_long push_room
 
-    pub push_after : pushed n ≡ joined n (waiting q)
-    push_after = push_list ∙ sym (ap (λ b. cond b (waiting q ++ (n ∷ [])) (waiting q)) (eq-eqb _ 0 absent))
+    pub push_after : pushed n ≡ joined n waiting
+    push_after = push_list ∙ sym (ap (λ b. cond b (waiting ++ (n ∷ [])) waiting) (eq-eqb _ 0 absent))
 
-    pub push_sound : Sound (set q.ring ((q.head + q.len) % 288) n) (set q.marks n true) q.head (q.len + 1)
-    push_sound = record {
-      ring_long = length-set q.ring _ n ∙ s.ring_long;
-      marks_long = length-set q.marks n true ∙ s.marks_long;
+    pub push_ring : Ring (set ring ((head + len) % 288) n) (set marks n true) head (len + 1)
+    push_ring = record {
+      ring_long = length-set ring _ n ∙ s.ring_long;
+      marks_long = length-set marks n true ∙ s.marks_long;
       head_in = s.head_in;
       len_in = let r = push_room in omega arith;
-      below = subst (AllBelow 288) (sym push_list) (below_snoc 288 (waiting q) n s.below h);
-      marked = λ m l. ap (times m) push_list ∙ times_snoc m (waiting q) n ∙ mark m l (eqb n m) refl;
+      nodes = subst (AllBelow 288) (sym push_list) (below_snoc 288 waiting n s.nodes h);
+      marked = λ m l. ap (times m) push_list ∙ times_snoc m waiting n ∙ mark m l (eqb n m) refl;
     }
       where
-        mark : (m : ℕ) → m < 288 → (b : Bool) → eqb n m ≡ b → times m (waiting q) + cond b 1 0 ≡ cond (get_or (set q.marks n true) m false) 1 0
+        mark : (m : ℕ) → m < 288 → (b : Bool) → eqb n m ≡ b → times m waiting + cond b 1 0 ≡ cond (get_or (set marks n true) m false) 1 0
         mark m l true e =
             let q' : n ≡ m = eqb-true n m e in
-            let z : times m (waiting q) ≡ 0 = subst (λ (j : ℕ). times j (waiting q) ≡ 0) q' absent in
-            let w : get_or (set q.marks n true) n false ≡ true = get_or-set_same q.marks n true false (omega (arith, s.marks_long)) in
-            let w' : get_or (set q.marks n true) m false ≡ true = ap (λ j. get_or (set q.marks n true) j false) (sym q') ∙ w in
-            let u : times m (waiting q) + 1 ≡ 1 = omega arith in
+            let z : times m waiting ≡ 0 = subst (λ (j : ℕ). times j waiting ≡ 0) q' absent in
+            let w : get_or (set marks n true) n false ≡ true = get_or-set_same marks n true false (omega (arith, s.marks_long)) in
+            let w' : get_or (set marks n true) m false ≡ true = ap (λ j. get_or (set marks n true) j false) (sym q') ∙ w in
+            let u : times m waiting + 1 ≡ 1 = omega arith in
             u ∙ sym (ap (λ b. cond b 1 0) w')
         mark m l false e =
             let ne : m ≡ n → ⊥ = λ x. eqb-false n m e (sym x) in
-            let w = get_or-set_other q.marks n m true false ne in
-            let u : times m (waiting q) + 0 ≡ times m (waiting q) = omega arith in
+            let w = get_or-set_other marks n m true false ne in
+            let u : times m waiting + 0 ≡ times m waiting = omega arith in
             u ∙ s.marked m l ∙ sym (ap (λ b. cond b 1 0) w)
 
   abbrev pub next : ℕ
-  next = get_or q.ring q.head 0
+  next = get_or ring head 0
 
   abbrev pub popped : List ℕ
-  popped = places q.ring ((q.head + 1) % 288) (q.len - 1)
+  popped = places ring ((head + 1) % 288) (len - 1)
 
-  module _ (some : q.len ≡ 0 → ⊥) where
-    pub pop_list : waiting q ≡ next ∷ popped
+  module _ (some : len ≡ 0 → ⊥) where
+    pub pop_list : waiting ≡ next ∷ popped
     pop_list =
-        let e : q.len ≡ suc (q.len - 1) = omega arith in
-        let a : q.head % 288 ≡ q.head = omega (arith, s.head_in) in
-        ap (places q.ring q.head) e
-        ∙ ap₂ (λ i (r : List ℕ). get_or q.ring i 0 ∷ r) a
-        (ap (λ i. places q.ring i (q.len - 1)) (sym (add-one q.head)) ∙ sym (places_mod q.ring (q.head + 1) (q.len - 1)))
+        let e : len ≡ suc (len - 1) = omega arith in
+        let a : head % 288 ≡ head = omega (arith, s.head_in) in
+        ap (places ring head) e
+        ∙ ap₂ (λ i (r : List ℕ). get_or ring i 0 ∷ r) a
+        (ap (λ i. places ring i (len - 1)) (sym (add-one head)) ∙ sym (places_mod ring (head + 1) (len - 1)))
 
     all : AllBelow 288 (next ∷ popped)
-    all = subst (AllBelow 288) pop_list s.below
+    all = subst (AllBelow 288) pop_list s.nodes
 
     pub pop_below : next < 288
     pop_below = all.0
 
-    pub pop_sound : Sound q.ring (set q.marks next false) ((q.head + 1) % 288) (q.len - 1)
-    pop_sound = record {
+    pub pop_ring : Ring ring (set marks next false) ((head + 1) % 288) (len - 1)
+    pop_ring = record {
       ring_long = s.ring_long;
-      marks_long = length-set q.marks next false ∙ s.marks_long;
+      marks_long = length-set marks next false ∙ s.marks_long;
       head_in = omega arith;
       len_in = omega (arith, s.len_in);
-      below = all.1;
+      nodes = all.1;
       marked = λ m l. mark m l (eqb next m) refl (sym (ap (times m) pop_list) ∙ s.marked m l);
     }
       where
-        mark : (m : ℕ) → m < 288 → (b : Bool) → eqb next m ≡ b → cond b 1 0 + times m (popped) ≡ cond (get_or q.marks m false) 1 0
-            → times m (popped) ≡ cond (get_or (set q.marks next false) m false) 1 0
+        mark : (m : ℕ) → m < 288 → (b : Bool) → eqb next m ≡ b → cond b 1 0 + times m popped ≡ cond (get_or marks m false) 1 0
+            → times m popped ≡ cond (get_or (set marks next false) m false) 1 0
         mark m l true e h =
             let q' : next ≡ m = eqb-true next m e in
-            let w : get_or (set q.marks next false) next false ≡ false = get_or-set_same q.marks next false false (omega (arith, s.marks_long, pop_below)) in
-            let w' : get_or (set q.marks next false) m false ≡ false = ap (λ j. get_or (set q.marks next false) j false) (sym q') ∙ w in
-            let u : times m (popped) ≡ 0 = bit (get_or q.marks m false) _ h in
+            let w : get_or (set marks next false) next false ≡ false = get_or-set_same marks next false false (omega (arith, s.marks_long, pop_below)) in
+            let w' : get_or (set marks next false) m false ≡ false = ap (λ j. get_or (set marks next false) j false) (sym q') ∙ w in
+            let u : times m popped ≡ 0 = bit (get_or marks m false) _ h in
             u ∙ sym (ap (λ b. cond b 1 0) w')
           where
             bit : (b : Bool) (x : ℕ) → 1 + x ≡ cond b 1 0 → x ≡ 0
@@ -242,6 +201,6 @@ module _ (q : Queue) where
             bit false x k = omega arith
         mark m l false e h =
             let ne : m ≡ next → ⊥ = λ x. eqb-false next m e (sym x) in
-            let w = get_or-set_other q.marks next m false false ne in
-            let u : times m (popped) ≡ 0 + times m (popped) = omega arith in
+            let w = get_or-set_other marks next m false false ne in
+            let u : times m popped ≡ 0 + times m popped = omega arith in
             u ∙ h ∙ sym (ap (λ b. cond b 1 0) w)

@@ -2,6 +2,6 @@ pub mod Distances
 pub mod Equations
 pub mod Rings
 pub mod Visits
-pub mod Waits
 pub mod Heights
 pub mod Falls
+pub mod Effects

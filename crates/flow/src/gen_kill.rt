@@ -1,34 +1,52 @@
 // Sets to which each node adds some members, after it kept some of those that came.
 ghost use Rattle.std.specs.Prelude.{◌≡◌, slice_index_or};
-ghost use Rattle.facts.specs.Sets.{everything, common, either};
 ghost use Rattle.flow.specs.Heights.{sets_keep, sets_fall};
 
 use crate::problem::Problem;
 use facts::{Fact, Set64};
 use graph::MOST_NODES;
 
+// What a node does to a set.
+#[derive(Clone, Copy)]
+pub struct Effect {
+    // what it keeps of the set
+    pub kept: Set64,
+    // what it adds then
+    pub added: Set64,
+}
+
+impl Effect {
+    ghost use Rattle.flow.specs.Effects.{affected, filling};
+
+    // The effect of what is no node.
+    fn filling() -> Effect
+        ensures { result ≡ filling }
+    {
+        let all = <Set64 as Fact>::top();
+        Effect {
+            kept: all,
+            added: all,
+        }
+    }
+
+    fn apply(self, set: Set64) -> Set64
+        ensures { result ≡ affected self set }
+    {
+        set.meet(self.kept).union(self.added)
+    }
+}
+
 #[derive(Clone, Copy)]
 pub struct GenKill {
     // the entry's fact
     pub given: Set64,
-    // by node, what it keeps of a set
-    pub kept: [Set64; MOST_NODES],
-    // by node, what it adds then
-    pub added: [Set64; MOST_NODES],
-}
-
-// The set of that node, or the full set where there is no such node.
-fn at(sets: &[Set64], n: usize) -> Set64
-    ensures { result ≡ slice_index_or sets.now n everything }
-{
-    if n < sets.len() {
-        sets[n]
-    } else {
-        <Set64 as Fact>::top()
-    }
+    // by node
+    pub effects: [Effect; MOST_NODES],
 }
 
 impl Problem for GenKill {
+    ghost use Rattle.flow.specs.Effects.{affected, filling};
+
     type Fact = Set64;
 
     const HEIGHT: u32 = 64;
@@ -37,9 +55,9 @@ impl Problem for GenKill {
 
     ghost given = { λ p. p.given };
 
-    ghost step = { λ p n a. either (common a (slice_index_or p.kept n everything)) (slice_index_or p.added n everything) };
+    ghost step = { λ p n. affected (slice_index_or p.effects n filling) };
 
-    ghost monotone = { λ p n a b. sets_keep a b (slice_index_or p.kept n everything) (slice_index_or p.added n everything) };
+    ghost monotone = { λ p n a b. let e = slice_index_or p.effects n filling in sets_keep a b e.kept e.added };
 
     ghost falls = { sets_fall };
 
@@ -52,6 +70,7 @@ impl Problem for GenKill {
     }
 
     fn step(&self, n: usize, fact: Set64) -> Set64 {
-        fact.meet(at(&self.kept, n)).union(at(&self.added, n))
+        let effect = self.effects.get(n).copied();
+        effect.unwrap_or(Effect::filling()).apply(fact)
     }
 }

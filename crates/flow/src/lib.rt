@@ -8,6 +8,6 @@ mod queue;
 mod solver;
 
 pub use distance::Distance;
-pub use gen_kill::GenKill;
+pub use gen_kill::{Effect, GenKill};
 pub use problem::Problem;
 pub use solver::solve;

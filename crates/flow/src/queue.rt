@@ -1,21 +1,91 @@
-// The nodes that wait to be visited.
-pub(crate) mod calls;
+// The nodes that wait to be visited: they leave in the order in which they came, and none waits twice.
+ghost use Rattle.std.specs.Prelude.{◌≡◌, ℕ, List, [], ◌∷◌, ◌<◌, ◌≤◌, All, length, MatchOption};
+ghost use Rattle.graph.specs.Shapes.{times, AllBelow};
+ghost use Rattle.flow.specs.Rings.{places, joined, joined_all, Ring};
 
-ghost use Rattle.std.specs.Prelude.{◌≡◌, ℕ, ◌<◌, ◌≤◌, true, false, length, if◌then◌else◌, slice_index_or};
-ghost use Rattle.graph.specs.Shapes.{times};
-ghost use Rattle.flow.specs.Rings.{places, all_below};
+use graph::MOST_NODES;
+use std::marker::Model;
 
-// A ring of 288 places, of which `len` from `head` on are taken, and a mark at each node that waits.
+// A ring, of which `len` places from `head` on are taken, and a mark at each node that waits.
+// Arrays and no `VecDeque`, since solving must not fail for want of memory.
 #[derive(Drop)]
 pub(crate) struct Queue {
-    ring: [usize; 288],
-    marks: [bool; 288],
+    ring: [usize; MOST_NODES],
+    marks: [bool; MOST_NODES],
     head: usize,
     len: usize,
-    ghost rings: { length ring ≡ 288 },
-    ghost flags: { length marks ≡ 288 },
-    ghost starts: { head < 288 },
-    ghost fits: { len ≤ 288 },
-    ghost nodes: { all_below 288 (places ring head len) ≡ true },
-    ghost marked: { (n : ℕ) → n < 288 → times n (places ring head len) ≡ (if slice_index_or marks n false then 1 else 0) },
+}
+
+impl Model for Queue {
+    ghost Value = { List ℕ };
+
+    ghost view = { λ q. places q.ring q.head q.len };
+
+    ghost invariant = { λ q. Ring q.ring q.marks q.head q.len };
+}
+
+impl Queue {
+    fn new() -> Queue
+        ensures { result ≡ [] }
+    {
+        Queue {
+            ring: [0; MOST_NODES],
+            marks: [false; MOST_NODES],
+            head: 0,
+            len: 0,
+        }
+    }
+
+    // Every node below the count waits.
+    pub(crate) fn of_all(count: usize) -> Queue
+        requires { count ≤ MOST_NODES }
+        ensures inside { AllBelow count result }
+        ensures each { (n : ℕ) → n < count → 0 < times n result }
+        ensures few { length result ≤ MOST_NODES }
+    {
+        let mut queue = Queue::new();
+        for n in 0..count {
+            queue.push(n);
+        }
+        queue
+    }
+
+    // The node waits last, unless it waits already.
+    pub(crate) fn push(&mut self, n: usize)
+        requires { n < MOST_NODES }
+        ensures joins { self.new ≡ joined n self.old }
+        ensures few { length self.new ≤ MOST_NODES }
+    {
+        if !self.marks[n] {
+            let at = (self.head + self.len) % MOST_NODES;
+            self.ring[at] = n;
+            self.marks[n] = true;
+            self.len += 1;
+        }
+    }
+
+    // Each of the nodes waits, in turn.
+    pub(crate) fn push_all(&mut self, nodes: &[usize])
+        requires { All (λ n. n < MOST_NODES) nodes.now }
+        ensures joins { self.new ≡ joined_all nodes.now self.old }
+        ensures few { length self.old ≤ MOST_NODES → length self.new ≤ MOST_NODES }
+    {
+        for &n in nodes {
+            self.push(n);
+        }
+    }
+
+    // The node that waited longest.
+    pub(crate) fn pop(&mut self) -> Option<usize>
+        ensures { MatchOption result ((self.old ≡ []) × (self.new ≡ [])) (λ n. self.old ≡ n ∷ self.new) }
+    {
+        if self.len == 0 {
+            return None;
+        }
+        let n = self.ring[self.head];
+        self.marks[n] = false;
+        self.head = (self.head + 1) % MOST_NODES;
+        self.len -= 1;
+        Some(n)
+    }
 }

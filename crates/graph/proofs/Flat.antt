@@ -1,7 +1,7 @@
 -- The heads of the edges from node 0, from node 1 and so on, one list after the other. Assumes nothing.
-use Rattle.std.proofs.Common.{◌≡◌, ℕ, zero, suc, ◌+◌, ◌-◌, ◌<◌, ◌≤◌, cond, eqb, ltb, List, [], ◌∷◌, ◌++◌, length, take, drop, sym, refl, ap, ◌∙◌, inl, inr, add-one, arith}
+use Rattle.std.proofs.Common.{◌≡◌, ℕ, zero, suc, ◌+◌, ◌-◌, ◌<◌, ◌≤◌, cond, eqb, ltb, List, [], ◌∷◌, ◌++◌, length, get_or, take, drop, sym, refl, ap, ◌∙◌, inl, inr, add-one, arith}
 use Rattle.std.proofs.lemmas.List.{append-nil, append_assoc, length-append, take-append-drop, take_at, drop_at}
-use Rattle.std.proofs.lemmas.Bool.{cases_eq}
+use Rattle.std.proofs.lemmas.Bool.{cases_eq, cases_lt}
 use Rattle.std.proofs.lemmas.Bool.Decides.{nat_tests}
 use Rattle.graph.specs.declared.edge.Edge.{Edge}
 use Rattle.graph.specs.Edges.{heads_from}
@@ -75,3 +75,20 @@ module _ (c n : ℕ) (es : List Edge) (xs : List ℕ) (k : ℕ) (h : n < c) (t :
 
   pub found : (a b : ℕ) → a ≡ length (flat n es) → b ≡ length (flat (n + 1) es) → take (b - a) (drop a xs) ≡ heads_from n es
   found a b e f = ap (λ (l : List ℕ). take (b - a) (drop a l)) parted.1 ∙ middle (flat n es) (heads_from n es) parted.0 a b e (f ∙ length_more n es)
+
+-- where the lists start: those of the first c nodes one after the other, the others at the end
+module _ (c : ℕ) (es : List Edge) (xs : List ℕ) (before : (i : ℕ) → i < c + 1 → get_or xs i 0 ≡ length (flat i es)) (behind : (i : ℕ) → c < i → i ≤ 288 → get_or xs i 0 ≡ length es) where
+  pub starts_rise : (n : ℕ) → n < 288 → get_or xs n 0 ≤ get_or xs (n + 1) 0
+  starts_rise n h = elim (cases_lt n c) [
+    | inl l ↦ let a = before n (omega arith) in let b = before (n + 1) (omega arith) in let m = length_more n es in omega arith
+    | inr l ↦ elim (cases_lt c n) [
+      | inl k ↦ let a = behind n k (omega arith) in let b = behind (n + 1) (omega arith) (omega arith) in omega arith
+      | inr k ↦ let a = before n (omega arith) in let b = behind (n + 1) (omega arith) (omega arith) in let s = flat_short n es in omega arith
+    ]
+  ]
+
+  pub starts_short : length es ≤ 384 → (n : ℕ) → n ≤ 288 → get_or xs n 0 ≤ 384
+  starts_short few n h = elim (cases_lt c n) [
+    | inl l ↦ let a = behind n l h in omega arith
+    | inr l ↦ let a = before n (omega arith) in let s = flat_short n es in omega arith
+  ]

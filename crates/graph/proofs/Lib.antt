@@ -1,3 +1,2 @@
 mod Flat
-mod Passing
 pub mod Shaped

@@ -1,22 +1,27 @@
 -- The edges of a list, seen from their tails and from their heads. Assumes nothing.
-use Rattle.std.specs.Prelude.{◌≡◌, ℕ, ◌+◌, ◌≤◌, Bool, true, false, cond, ◌&&◌, List, [], ◌∷◌, map, length, ◌==◌, nat_lt, refl}
+use Rattle.std.specs.Prelude.{◌≡◌, ℕ, zero, suc, ◌+◌, ◌<◌, ◌≤◌, Bool, true, false, cond, ◌&&◌, List, [], ◌∷◌, map, length, ◌==◌, nat_lt, All, refl}
 use Rattle.std.proofs.Common.{sym, ap, ap₂, subst, ◌∙◌, arith}
+use Rattle.std.proofs.Math.Bool.{and_comm}
 use Rattle.std.proofs.lemmas.List.{length-map}
 use Rattle.std.proofs.lemmas.Bool.{and_parts, and_from, ltb-true, lt-ltb, eq-eqb, ne_eqb}
 use Rattle.std.proofs.lemmas.Bool.Decides.{nat_tests}
 use Rattle.graph.specs.declared.edge.Edge.{Edge}
 use Rattle.graph.specs.Edges.{put, heads_from, tails_to, turned_edge, within}
-use Rattle.graph.specs.Rows.{all_below}
 use Rattle.graph.specs.Shapes.{times, AllBelow}
 
 -- every number of a list is below c
 
-pub below_fact : (c : ℕ) (l : List ℕ) → all_below c l ≡ true → AllBelow c l
+pub below_fact : (c : ℕ) (l : List ℕ) → All (λ n. n < c) l → AllBelow c l
 below_fact c [] h = tt
-below_fact c (n ∷ l) h = let p = and_parts (nat_lt n c) (all_below c l) h in (ltb-true n c p.0, below_fact c l p.1)
+below_fact c (n ∷ l) h = (h 0 n (omega arith), below_fact c l (λ k d i. h (suc k) d (omega arith)))
 
-below_put : (b : Bool) (c x : ℕ) (l : List ℕ) → nat_lt x c ≡ true → all_below c l ≡ true → all_below c (put b x l) ≡ true
-below_put true c x l h k = and_from (nat_lt x c) (all_below c l) h k
+pub fact_below : (c : ℕ) (l : List ℕ) → AllBelow c l → All (λ n. n < c) l
+fact_below c [] h k d i = absurd (omega arith)
+fact_below c (n ∷ l) h zero d i = h.0
+fact_below c (n ∷ l) h (suc k) d i = fact_below c l h.1 k d (omega arith)
+
+below_put : (b : Bool) (c x : ℕ) (l : List ℕ) → x < c → AllBelow c l → AllBelow c (put b x l)
+below_put true c x l h k = (h, k)
 below_put false c x l h k = k
 
 below_rest : (b : Bool) (c x : ℕ) (l : List ℕ) → AllBelow c (put b x l) → AllBelow c l
@@ -51,14 +56,26 @@ within_parts c e es h =
     let q = and_parts (nat_lt e.head c) (within c es) p.1 in
     (p.0, q.0, q.1)
 
-pub heads_below : (c : ℕ) (es : List Edge) (m : ℕ) → within c es ≡ true → all_below c (heads_from m es) ≡ true
-heads_below c [] m h = refl
-heads_below c (e ∷ es) m h =
-    let p = within_parts c e es h in
-    below_put (e.tail == m) c e.head (heads_from m es) p.1 (heads_below c es m p.2)
+abbrev Inside : ℕ → Edge → Type 0
+Inside c e = (e.tail < c) × (e.head < c)
+
+pub within_every : (c : ℕ) (es : List Edge) → All (Inside c) es → within c es ≡ true
+within_every c [] h = refl
+within_every c (e ∷ es) h =
+    let p = h 0 e (omega arith) in
+    and_from (nat_lt e.tail c) (nat_lt e.head c && within c es) (lt-ltb e.tail c p.0)
+    (and_from (nat_lt e.head c) (within c es) (lt-ltb e.head c p.1) (within_every c es (λ k d i. h (suc k) d (omega arith))))
+
+pub every_within : (c : ℕ) (es : List Edge) → within c es ≡ true → All (Inside c) es
+every_within c [] h k d i = absurd (omega arith)
+every_within c (e ∷ es) h zero d i = let p = within_parts c e es h in (ltb-true e.tail c p.0, ltb-true e.head c p.1)
+every_within c (e ∷ es) h (suc k) d i = every_within c es (within_parts c e es h).2 k d (omega arith)
 
 pub heads_in : (c : ℕ) (es : List Edge) (m : ℕ) → within c es ≡ true → AllBelow c (heads_from m es)
-heads_in c es m h = below_fact c (heads_from m es) (heads_below c es m h)
+heads_in c [] m h = tt
+heads_in c (e ∷ es) m h =
+    let p = within_parts c e es h in
+    below_put (e.tail == m) c e.head (heads_from m es) (ltb-true e.head c p.1) (heads_in c es m p.2)
 
 pub tails_in : (c : ℕ) (es : List Edge) (n : ℕ) → within c es ≡ true → AllBelow c (tails_to n es)
 tails_in c es n h = subst (AllBelow c) (tails_turned es n) (heads_in c (map turned_edge es) n (within_turned c es ∙ h))
@@ -107,15 +124,9 @@ times_put : (b : Bool) (n x : ℕ) (l : List ℕ) → times n (put b x l) ≡ co
 times_put true n x l = refl
 times_put false n x l = omega arith
 
-and_flip : (a b : Bool) → (a && b) ≡ (b && a)
-and_flip true true = refl
-and_flip true false = refl
-and_flip false true = refl
-and_flip false false = refl
-
 pub same_edges : (es : List Edge) (m n : ℕ) → times n (heads_from m es) ≡ times m (tails_to n es)
 same_edges [] m n = refl
 same_edges (e ∷ es) m n =
     times_put (e.tail == m) n e.head (heads_from m es)
-    ∙ ap₂ (λ (b : Bool) (k : ℕ). cond b 1 0 + k) (and_flip (e.tail == m) (e.head == n)) (same_edges es m n)
+    ∙ ap₂ (λ (b : Bool) (k : ℕ). cond b 1 0 + k) (and_comm (e.tail == m) (e.head == n)) (same_edges es m n)
     ∙ sym (times_put (e.head == n) m e.tail (tails_to n es))

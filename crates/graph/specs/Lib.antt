@@ -5,5 +5,3 @@ pub mod Rows
 pub mod Shapes
 pub mod EdgeLists
 pub mod Making
-pub mod Narrow
-pub mod Nths

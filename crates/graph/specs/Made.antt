@@ -1,10 +1,9 @@
 -- What a graph made from its edges is. Assumes nothing.
-use Rattle.std.specs.Prelude.{◌≡◌, ℕ, zero, suc, ◌≤◌, Bool, true, ◌&&◌, List, length, Some, None, Option, nat_le}
-use Rattle.graph.specs.declared.adjacency.Adjacency.{Adjacency}
+use Rattle.std.specs.Prelude.{◌≡◌, ℕ, ◌≤◌, List, length, Some, None, Option}
 use Rattle.graph.specs.declared.edge.Edge.{Edge}
 use Rattle.graph.specs.declared.edge_graph.EdgeGraph.{EdgeGraph}
 use Rattle.graph.specs.Edges.{edge_shape}
-use Rattle.graph.specs.Rows.{row, row_values_below}
+use Rattle.graph.specs.Rows.{row_values_below}
 use Rattle.graph.specs.Shapes.{Shape, Sized}
 
 -- the lists of the nodes; what is no node has none
@@ -16,11 +15,6 @@ shape_in g = record {
   succs = λ n. row_values_below g.count g.outgoing n;
   preds = λ n. row_values_below g.count g.incoming n;
 }
-
--- none of the first n lists is longer than 288
-abbrev pub narrow : ℕ → Adjacency → Bool
-narrow zero a = true
-narrow (suc n) a = nat_le (length (row a n)) 288 && narrow n a
 
 -- the graph of the edges; or none, where that would be no graph or there are more than 384 edges
 abbrev pub Makes : ℕ → ℕ → ℕ → List Edge → Option EdgeGraph → Type 0

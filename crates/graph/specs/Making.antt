@@ -1,15 +1,13 @@
 -- Lists of neighbours that make a graph. Assumes nothing.
-use Rattle.std.specs.Prelude.{◌≡◌, ℕ, ◌<◌, ◌≤◌, true, false, List, [], map, length, nat_lt}
-use Rattle.std.proofs.Common.{sym, ap, ◌∙◌, inl, inr, arith}
-use Rattle.std.proofs.lemmas.Bool.{cases_lt, ltb-true, lt-ltb, le-ltb, cond-true, cond-false, cond_both, both_ways}
+use Rattle.std.specs.Prelude.{◌≡◌, ℕ, ◌<◌, ◌≤◌, true, List, [], map, length, nat_lt, All}
+use Rattle.std.proofs.Common.{sym, ap, subst, ◌∙◌, inl, inr, arith}
+use Rattle.std.proofs.lemmas.Bool.{cases_lt, ltb-true, lt-ltb, le-ltb, cond-true, cond-false, cond_both}
 use Rattle.graph.specs.declared.adjacency.Adjacency.{Adjacency}
 use Rattle.graph.specs.declared.edge.Edge.{Edge}
 use Rattle.graph.specs.Edges.{heads_from, tails_to, turned_edge, within}
-use Rattle.graph.specs.Made.{narrow}
-use Rattle.graph.specs.Rows.{row, row_values_below, all_below}
-use Rattle.graph.specs.Shapes.{times}
-use Rattle.graph.specs.EdgeLists.{heads_below, heads_none, within_turned, tails_turned, same_edges}
-use Rattle.graph.specs.Narrow.{narrow_decides}
+use Rattle.graph.specs.Rows.{row, row_values_below}
+use Rattle.graph.specs.Shapes.{times, AllBelow}
+use Rattle.graph.specs.EdgeLists.{fact_below, heads_in, heads_none, within_turned, tails_turned, same_edges}
 
 pub row_none : (c : ℕ) (a : Adjacency) (n : ℕ) → c ≤ n → row_values_below c a n ≡ []
 row_none c a n h = cond-false (nat_lt n c) (row a n) [] (le-ltb n c h)
@@ -22,14 +20,14 @@ module _ (c : ℕ) (es : List Edge) (a : Adjacency) (rows : (n : ℕ) → n < c 
     | inr h ↦ row_none c a n h ∙ sym (heads_none c es n w h)
   ]
 
-  pub row_below : within c es ≡ true → (n : ℕ) → all_below c (row_values_below c a n) ≡ true
-  row_below w n = ap (all_below c) (row_is w n) ∙ heads_below c es n w
+  pub row_below : within c es ≡ true → (n : ℕ) → All (λ m. m < c) (row_values_below c a n)
+  row_below w n = fact_below c (row_values_below c a n) (subst (AllBelow c) (sym (row_is w n)) (heads_in c es n w))
 
-  pub row_short : narrow c a ≡ true → (n : ℕ) → length (row_values_below c a n) ≤ 288
-  row_short y n = cond_both (nat_lt n c) (row a n) [] (λ l. length l ≤ 288) (λ e. (narrow_decides a c).0 y n (ltb-true n c e)) (λ e. omega arith)
+  pub row_short : ((n : ℕ) → n < c → length (row a n) ≤ 288) → (n : ℕ) → length (row_values_below c a n) ≤ 288
+  row_short y n = cond_both (nat_lt n c) (row a n) [] (λ l. length l ≤ 288) (λ e. y n (ltb-true n c e)) (λ e. omega arith)
 
-  pub row_long : narrow c a ≡ false → ((n : ℕ) → length (heads_from n es) ≤ 288) → ⊥
-  row_long f short = both_ways (narrow c a) f ((narrow_decides a c).1 (λ n h. let e = ap length (rows n h) in let s = short n in omega arith))
+  pub short_row : ((n : ℕ) → length (heads_from n es) ≤ 288) → (n : ℕ) → n < c → length (row a n) ≤ 288
+  short_row short n h = let e = ap length (rows n h) in let s = short n in omega arith
 
 -- both directions
 module _ (c : ℕ) (es : List Edge) (o i : Adjacency) (outgoing : (n : ℕ) → n < c → row o n ≡ heads_from n es) (incoming : (n : ℕ) → n < c → row i n ≡ heads_from n (map turned_edge es)) (w : within c es ≡ true) where

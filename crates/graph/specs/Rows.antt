@@ -1,5 +1,5 @@
 -- The lists of neighbours that stand in two arrays. Assumes nothing.
-use Rattle.std.specs.Prelude.{ℕ, ◌+◌, ◌-◌, Bool, true, cond, ◌&&◌, List, [], ◌∷◌, take, drop, nat_lt, slice_index}
+use Rattle.std.specs.Prelude.{ℕ, ◌+◌, ◌-◌, cond, List, [], take, drop, nat_lt, slice_index}
 use Rattle.graph.specs.declared.adjacency.Adjacency.{Adjacency}
 
 -- the neighbours of node n
@@ -9,8 +9,3 @@ row a n = take (slice_index a.starts (n + 1) - slice_index a.starts n) (drop (sl
 -- the same where n is below c, and else none
 abbrev pub row_values_below : ℕ → Adjacency → ℕ → List ℕ
 row_values_below c a n = cond (nat_lt n c) (row a n) []
-
--- every number of the list is below n
-abbrev pub all_below : ℕ → List ℕ → Bool
-all_below n [] = true
-all_below n (m ∷ ms) = nat_lt m n && all_below n ms

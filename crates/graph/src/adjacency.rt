@@ -1,65 +1,66 @@
 // Lists of neighbours, one for each node, in two arrays.
-ghost use Rattle.std.specs.Prelude.{◌≡◌, ℕ, ◌+◌, ◌<◌, ◌≤◌, ◌++◌, length, take};
-ghost use Rattle.std.specs.List.{slice_get};
+ghost use Rattle.std.specs.Prelude.{◌≡◌, ℕ, ◌+◌, ◌<◌, ◌≤◌, ◌++◌, length, slice_index};
+ghost use Rattle.arrayvec.specs.ArrayVec.{array_vec_len};
 ghost use Rattle.graph.specs.Edges.{heads_from};
-ghost use Rattle.graph.specs.Rows.{row};
+ghost use Rattle.graph.specs.declared.adjacency.TheConstants.{MOST_EDGES};
+ghost use Rattle.graph.specs.declared.flow_graph.TheConstants.{MOST_NODES};
 
 use crate::edge::Edge;
+use crate::flow_graph::MOST_NODES;
+use arrayvec::ArrayVec;
 
 // The most edges that a graph made from its edges can have.
 pub(crate) const MOST_EDGES: usize = 384;
 
 // The neighbours of node n stand from starts[n] up to starts[n + 1] in `ends`.
+// Arrays and not an `ArrayVec`, which is not `Copy` as a graph is.
 #[derive(Clone, Copy)]
 pub(crate) struct Adjacency {
-    starts: [usize; 289],
+    starts: [usize; MOST_NODES + 1],
     ends: [usize; MOST_EDGES],
+    ghost rising: { (n : ℕ) → n < MOST_NODES → slice_index starts n ≤ slice_index starts (n + 1) },
+    ghost inside: { (n : ℕ) → n ≤ MOST_NODES → slice_index starts n ≤ MOST_EDGES },
 }
 
-// Puts the heads of the edges from n behind the first `len` ends, and answers how many there are then.
-fn put_heads(edges: &[Edge], n: usize, ends: &mut [usize; MOST_EDGES], len: usize) -> usize
-    requires { len + length (heads_from n edges.now) ≤ 384 }
-    ensures len { result ≡ len + length (heads_from n edges.now) }
-    ensures ends { take result ends.new ≡ take len ends.old ++ heads_from n edges.now }
+// The heads of the edges from n come behind those that are there.
+fn push_heads(edges: &[Edge], n: usize, heads: &mut ArrayVec<usize, MOST_EDGES>)
+    requires { array_vec_len heads.old + length (heads_from n edges.now) ≤ MOST_EDGES }
+    ensures { heads.new.items ≡ heads.old.items ++ heads_from n edges.now }
 {
-    let mut at = len;
     for edge in edges {
         if edge.tail == n {
-            ends[at] = edge.head;
-            at += 1;
+            heads.push(edge.head);
         }
     }
-    at
 }
 
 impl Adjacency {
+    ghost use Rattle.graph.specs.Rows.{row};
+
     // The heads of the edges, by their tails.
     pub(crate) fn new(count: usize, edges: &[Edge]) -> Adjacency
-        requires few { count ≤ 288 }
-        requires short { length edges.now ≤ 384 }
+        requires few { count ≤ MOST_NODES }
+        requires short { length edges.now ≤ MOST_EDGES }
         ensures { (n : ℕ) → n < count → row result n ≡ heads_from n edges.now }
     {
-        let mut starts = [0; 289];
-        let mut ends = [0; MOST_EDGES];
-        let mut len = 0;
+        // What is no node has no neighbours, and its list starts at the end.
+        let mut starts = [edges.len(); MOST_NODES + 1];
+        starts[0] = 0;
+        let mut heads = ArrayVec::new();
         for n in 0..count {
-            len = put_heads(edges, n, &mut ends, len);
-            starts[n + 1] = len;
+            push_heads(edges, n, &mut heads);
+            starts[n + 1] = heads.len();
         }
+        let mut ends = [0; MOST_EDGES];
+        ends[..heads.len()].copy_from_slice(heads.as_slice());
         Adjacency { starts, ends }
     }
 
-    // The k-th neighbour of node n.
-    pub(crate) fn get(&self, n: usize, k: usize) -> Option<usize>
-        requires { n < 288 }
-        ensures { result ≡ slice_get (row self.now n) k }
+    // The neighbours of node n.
+    pub(crate) fn row(&self, n: usize) -> &[usize]
+        requires { n < MOST_NODES }
+        ensures { result.now ≡ row self.now n }
     {
-        let start = self.starts[n];
-        let end = self.starts[n + 1];
-        if k < end.saturating_sub(start) {
-            self.ends.get(start + k).copied()
-        } else {
-            None
-        }
+        &self.ends[self.starts[n]..self.starts[n + 1]]
     }
 }

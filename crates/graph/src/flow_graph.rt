@@ -20,15 +20,29 @@ pub trait Graph {
     fn exit(&self) -> usize
         ensures { result ≡ (shape self.now).exit };
 
-    // The k-th successor of node n, counted from 0.
-    fn successor(&self, n: usize, k: usize) -> Option<usize>
-        ensures { result ≡ slice_get ((shape self.now).succs n) k };
+    // The successors of node n, one for each edge from it.
+    fn successors(&self, n: usize) -> &[usize]
+        ensures { result.now ≡ (shape self.now).succs n };
 
-    // The k-th predecessor of node n, counted from 0.
-    fn predecessor(&self, n: usize, k: usize) -> Option<usize>
-        ensures { result ≡ slice_get ((shape self.now).preds n) k };
+    // The predecessors of node n, one for each edge to it.
+    fn predecessors(&self, n: usize) -> &[usize]
+        ensures { result.now ≡ (shape self.now).preds n };
 
     ghost sized: { (g : Self) → Sized (shape g) };
 
     ghost edges: { (g : Self) → SameEdges (shape g) };
+
+    // The k-th successor of node n, counted from 0.
+    final fn successor(&self, n: usize, k: usize) -> Option<usize>
+        ensures { result ≡ slice_get ((shape self.now).succs n) k }
+    {
+        self.successors(n).get(k).copied()
+    }
+
+    // The k-th predecessor of node n, counted from 0.
+    final fn predecessor(&self, n: usize, k: usize) -> Option<usize>
+        ensures { result ≡ slice_get ((shape self.now).preds n) k }
+    {
+        self.predecessors(n).get(k).copied()
+    }
 }

@@ -21,8 +21,7 @@ impl<G: Graph> Reversed<G> {
     pub fn back(self) -> G
         ensures { result ≡ self.of }
     {
-        let Reversed { of } = self;
-        of
+        self.of
     }
 }
 
@@ -45,11 +44,11 @@ impl<G: Graph> Graph for Reversed<G> {
         self.of.entry()
     }
 
-    fn successor(&self, n: usize, k: usize) -> Option<usize> {
-        self.of.predecessor(n, k)
+    fn successors(&self, n: usize) -> &[usize] {
+        self.of.predecessors(n)
     }
 
-    fn predecessor(&self, n: usize, k: usize) -> Option<usize> {
-        self.of.successor(n, k)
+    fn predecessors(&self, n: usize) -> &[usize] {
+        self.of.successors(n)
     }
 }

@@ -9,7 +9,8 @@ use Rattle.flow.specs.Equations.{inflow, Safe, Solution}
 use Rattle.graph.specs.Paths.{member, Reaches}
 use Rattle.graph.specs.Shapes.{Shape, SameEdges, AllBelow}
 use Rattle.numbering.proofs.Bools.{not_i, not_e}
-use Rattle.reach.specs.Near.{some, near}
+use Rattle.std.specs.List.{list_any}
+use Rattle.reach.specs.Near.{near}
 use Rattle.reach.proofs.Near.{some_at, some_of, near_entry, near_step, near_reaches, reaches_near}
 use Rattle.reach.proofs.Paths.{path_keeps}
 
@@ -26,7 +27,7 @@ known_either (Some a) None = refl
 known_either None b = refl
 
 -- a depth comes in exactly if one of the nodes has one
-known_comes : (f : ℕ → Depth) (l : List ℕ) → known (comes f l) ≡ some (λ n. known (f n)) l
+known_comes : (f : ℕ → Depth) (l : List ℕ) → known (comes f l) ≡ list_any (λ n. known (f n)) l
 known_comes f [] = refl
 known_comes f (k ∷ l) = known_either (f k) (comes f l) ∙ ap (λ b. known (f k) || b) (known_comes f l)
 

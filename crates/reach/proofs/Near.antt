@@ -5,19 +5,20 @@ use Rattle.std.proofs.lemmas.Bool.{cases_lt, cases_eq}
 use Rattle.graph.specs.Paths.{member, Reaches}
 use Rattle.graph.specs.Shapes.{Shape, SameEdges, AllBelow, turned}
 use Rattle.numbering.proofs.Bools.{or_i, or_e}
-use Rattle.reach.specs.Near.{some, near}
+use Rattle.std.specs.List.{list_any}
+use Rattle.reach.specs.Near.{near}
 use Rattle.reach.proofs.Paths.{member_first, member_later, member_cases, same_turned, pred_succ, reaches_end, reaches_round, round_reaches, path_keeps}
 
-pub some_at : (f : ℕ → Bool) (l : List ℕ) → T (some f l) → (m : ℕ) × T (member m l) × T (f m)
+pub some_at : (f : ℕ → Bool) (l : List ℕ) → T (list_any f l) → (m : ℕ) × T (member m l) × T (f m)
 some_at f [] t = absurd t
-some_at f (k ∷ l) t = elim (or_e (f k) (some f l) t) [
+some_at f (k ∷ l) t = elim (or_e (f k) (list_any f l) t) [
   | inl i ↦ (k, member_first k l, i)
   | inr i ↦ let r = some_at f l i in (r.0, member_later r.0 k l r.1, r.2)
 ]
 
-pub some_of : (f : ℕ → Bool) (l : List ℕ) (m : ℕ) → T (member m l) → T (f m) → T (some f l)
+pub some_of : (f : ℕ → Bool) (l : List ℕ) (m : ℕ) → T (member m l) → T (f m) → T (list_any f l)
 some_of f [] m i t = i
-some_of f (k ∷ l) m i t = or_i (f k) (some f l) (elim (member_cases m k l i) [
+some_of f (k ∷ l) m i t = or_i (f k) (list_any f l) (elim (member_cases m k l i) [
   | inl e ↦ inl (subst (λ (j : ℕ). T (f j)) e t)
   | inr j ↦ inr (some_of f l m j t)
 ])
@@ -60,18 +61,18 @@ module _ (s : Shape) where
   near_later j zero n l t = subst (λ (i : ℕ). T (near s i n)) (let e : j ≡ 0 = omega arith in e) t
   near_later j (suc k) n l t = elim (cases_lt k j) [
     | inl g ↦ subst (λ (i : ℕ). T (near s i n)) (let e : j ≡ suc k = omega arith in e) t
-    | inr g ↦ or_i (near s k n) (some (near s k) (s.preds n)) (inl (near_later j k n g t))
+    | inr g ↦ or_i (near s k n) (list_any (near s k) (s.preds n)) (inl (near_later j k n g t))
   ]
 
   pub near_entry : (k : ℕ) → T (near s k s.entry)
   near_entry k = near_later 0 k s.entry (omega arith) (eqb_refl s.entry)
 
   pub near_step : (k m n : ℕ) → T (member m (s.preds n)) → T (near s k m) → T (near s (suc k) n)
-  near_step k m n i t = or_i (near s k n) (some (near s k) (s.preds n)) (inr (some_of (near s k) (s.preds n) m i t))
+  near_step k m n i t = or_i (near s k n) (list_any (near s k) (s.preds n)) (inr (some_of (near s k) (s.preds n) m i t))
 
   pub near_reaches : SameEdges s → (k n : ℕ) → T (near s k n) → Reaches s s.entry n
   near_reaches e zero n t = ([], sym (eqb→eq n s.entry t))
-  near_reaches e (suc k) n t = elim (or_e (near s k n) (some (near s k) (s.preds n)) t) [
+  near_reaches e (suc k) n t = elim (or_e (near s k n) (list_any (near s k) (s.preds n)) t) [
     | inl a ↦ near_reaches e k n a
     | inr a ↦ let m = some_at (near s k) (s.preds n) a in reaches_end s s.entry m.0 n (near_reaches e k m.0 m.2) (pred_succ s e m.0 n m.1)
   ]

@@ -1,17 +1,17 @@
 // Which nodes of a graph the entry reaches, and which reach the exit, told by depths.
 #![tactic(auto)]
 
-ghost use Rattle.std.specs.Prelude.{ℕ, ◌≤◌, T, length, None, is_none, slice_index_or};
+ghost use Rattle.std.specs.Prelude.{◌≤◌, T, None, is_none, slice_index_or};
 ghost use Rattle.graph.specs.Paths.{Reaches};
 ghost use Rattle.reach.specs.Lowest.{Lowest};
 
 use facts::Depth;
 use flow::{Distance, solve};
-use graph::{Graph, Reversed};
+use graph::{Graph, MOST_NODES, Reversed};
 
 // The lowest node without a depth.
-fn first_missing(depths: &[Depth], count: usize) -> Option<usize>
-    requires { count ≤ length depths.now }
+fn first_missing(depths: &[Depth; MOST_NODES], count: usize) -> Option<usize>
+    requires { count ≤ MOST_NODES }
     ensures { Lowest (λ n. T (is_none (slice_index_or depths.now n None)) → ⊥) count result }
 {
     depths[..count].iter().position(Option::is_none)

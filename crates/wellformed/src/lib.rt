@@ -4,8 +4,6 @@
 ghost use Rattle.wellformed.specs.Verdicts.{VerdictRight};
 
 // The computed verdict is the first fault that fits, and at the lowest line.
-pub fn verdict_right<X, L, E>() -> u8
+pub fn verdict_right<X, L, E>()
     ensures { VerdictRight X L E }
-{
-    0
-}
+{}

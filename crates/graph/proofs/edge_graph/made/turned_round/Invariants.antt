@@ -1,6 +1,0 @@
-use Rattle.std.proofs.Common.{◌≡◌, map, length, take}
-use Rattle.graph.specs.Edges.{turned_edge}
-use Rattle.graph.proofs.edge_graph.made.turned_round.Given as goal
-
-abbrev pub invariant-loop-place : goal.invariant-loop-place
-invariant-loop-place l = (take l.place l.turned ≡ map turned_edge (take l.place l.edges)) × (length l.turned ≡ 384)
