@@ -1,6 +1,5 @@
 // A session: commands in, answers out.
 ghost use Rattle.std.specs.Prelude.{◌≡◌};
-ghost use Rattle.draft.specs.Plain.{lines_of};
 ghost use Rattle.console.specs.Changes.{changed, Heeds};
 
 use crate::answer::{HELP, Refusal, Shown};
@@ -58,7 +57,7 @@ fn list(rt: &impl Print, draft: &Draft) -> io::Result<()> {
 }
 
 fn obey(rt: &impl Print, draft: &mut Draft, command: Command<'_>) -> io::Result<()>
-    ensures { lines_of draft.new ≡ changed command.entry (lines_of draft.old) }
+    ensures { draft.new ≡ changed command.entry draft.old }
 {
     match command {
         Command::Nothing => Ok(()),
@@ -69,7 +68,7 @@ fn obey(rt: &impl Print, draft: &mut Draft, command: Command<'_>) -> io::Result<
 }
 
 fn answer(rt: &impl Print, draft: &mut Draft, line: &[u8]) -> io::Result<()>
-    ensures { Heeds line.now (lines_of draft.old) (lines_of draft.new) }
+    ensures { Heeds line.now draft.old draft.new }
 {
     match Command::parse(line) {
         Ok(command) => obey(rt, draft, command),

@@ -1,6 +1,5 @@
 // How a program is sealed, and what it tells.
 ghost use Rattle.std.specs.Prelude.{◌≡◌, ◌≤◌, true, [], map, length, Ok, IfOk, vec_len, vec_capacity, codes};
-ghost use Rattle.draft.specs.Plain.{lines_of as draft_lines};
 ghost use Rattle.graph.specs.Edges.{edge_shape};
 ghost use Rattle.graph.specs.Made.{shape_in};
 ghost use Rattle.line.specs.declared.syntax.Statement.TheVariants.{Halt};
