@@ -1,2 +1,2 @@
-mod Cuts
 mod Digits
+mod Strike

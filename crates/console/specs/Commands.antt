@@ -1,13 +1,14 @@
 -- What a line of input asks for. Assumes nothing.
-use Rattle.std.specs.Prelude.{◌≡◌, ℕ, ◌^◌, ◌<◌, Bool, true, false, cond, ◌&&◌, List, [], ◌∷◌, length, drop, Some, None, Ok, Err, codes, Option, Result, ◌==◌, slice_index}
+use Rattle.std.specs.Prelude.{◌≡◌, ℕ, ◌^◌, ◌<◌, Bool, true, false, cond, List, [], ◌∷◌, length, drop, Some, None, Ok, Err, codes, Option, Result, ◌==◌, slice_index}
+use Rattle.std.specs.List.{before_first, after_first, list_all}
 use Rattle.std.specs.Str.Parse.{IsNumeral, digits_value}
 use Rattle.std.specs.Char.{is_ascii_whitespace}
 use Rattle.std.specs.Str.{bytes_eq}
 use Rattle.draft.specs.declared.edit.Edit.TheVariants as edit
 use Rattle.console.specs.declared.command.Command.{Command}
 use Rattle.console.specs.declared.command.Command.TheVariants as asks
-use Rattle.console.specs.declared.command.Name.{Name}
-use Rattle.console.specs.declared.command.Name.TheVariants.{Add, Mend, Strike, List as Listing, Help, Other}
+use Rattle.console.specs.declared.command.Verb.{Verb}
+use Rattle.console.specs.declared.command.Verb.TheVariants.{Add, Mend, Strike, List as Listing, Help}
 use Rattle.console.specs.declared.command.Reason.{Reason}
 use Rattle.console.specs.declared.command.Reason.TheVariants as why
 
@@ -15,31 +16,28 @@ abbrev pub Text : Type 0
 Text = List ℕ
 
 abbrev pub Answer : Type 0
-Answer = Result Command Reason
+Answer = Result (Option Command) Reason
 
 -- the bytes before the first space, and those after it
 abbrev pub word : Text → Text
-word [] = []
-word (b ∷ bs) = cond (b == 32) [] (b ∷ word bs)
+word bs = before_first (λ b. b == 32) bs
 
 abbrev pub after : Text → Text
-after [] = []
-after (b ∷ bs) = cond (b == 32) bs (after bs)
+after bs = after_first (λ b. b == 32) bs
 
 abbrev pub only_blank : Text → Bool
-only_blank [] = true
-only_blank (b ∷ bs) = b == 32 && only_blank bs
+only_blank bs = list_all (λ b. b == 32) bs
 
--- the command of that name
-abbrev pub name_of : Text → Name
-name_of w =
-    cond (bytes_eq w (codes "add")) Add
-    (cond (bytes_eq w (codes "mend")) Mend
-    (cond (bytes_eq w (codes "strike")) Strike
-    (cond (bytes_eq w (codes "list")) Listing
-    (cond (bytes_eq w (codes "help")) Help Other))))
+-- the command that begins with that word
+abbrev pub verb_of : Text → Option Verb
+verb_of w =
+    cond (bytes_eq w (codes "add")) (Some Add)
+    (cond (bytes_eq w (codes "mend")) (Some Mend)
+    (cond (bytes_eq w (codes "strike")) (Some Strike)
+    (cond (bytes_eq w (codes "list")) (Some Listing)
+    (cond (bytes_eq w (codes "help")) (Some Help) None))))
 
--- nothing, or what begins a remark
+-- no word, or one that begins a remark
 abbrev pub is_remark : Text → Bool
 is_remark [] = true
 is_remark (b ∷ bs) = b == 35
@@ -50,48 +48,35 @@ NumberOf ds (Some n) = IsNumeral 10 ds × (n ≡ digits_value 10 ds)
 NumberOf ds None = IsNumeral 10 ds × (digits_value 10 ds < 2 ^ 64) → ⊥
 
 -- a line number, a space and a text
-abbrev pub Mends : Text → Answer → Type 0
+abbrev pub Mends : Text → Result Command Reason → Type 0
 Mends s (Ok (asks.Edit (edit.Mend n t))) = NumberOf (word s) (Some n) × (t.now ≡ after s)
 Mends s (Err why.NoNumber) = word s ≡ []
 Mends s (Err (why.BadNumber t)) = (0 < length (word s)) × NumberOf (word s) None × (t.now ≡ word s)
-Mends s (Ok asks.Nothing) = ⊥
-Mends s (Ok (asks.Edit (edit.Add t))) = ⊥
-Mends s (Ok (asks.Edit edit.Strike)) = ⊥
-Mends s (Ok asks.List) = ⊥
-Mends s (Ok asks.Help) = ⊥
-Mends s (Err (why.NoCommand t)) = ⊥
-Mends s (Err (why.NothingMore t)) = ⊥
+Mends s _ = ⊥
 
 -- the command c of the name w, if nothing but spaces follows
-abbrev pub Alone : Command → Text → Text → Answer → Type 0
+abbrev pub Alone : Command → Text → Text → Result Command Reason → Type 0
 Alone c w s (Ok d) = (d ≡ c) × (only_blank s ≡ true)
 Alone c w s (Err (why.NothingMore t)) = (t.now ≡ w) × (only_blank s ≡ false)
-Alone c w s (Err why.NoNumber) = ⊥
-Alone c w s (Err (why.BadNumber t)) = ⊥
-Alone c w s (Err (why.NoCommand t)) = ⊥
+Alone c w s _ = ⊥
 
 -- by the name of the command; w is its spelling, and s what follows
-abbrev pub Named : Name → Text → Text → Answer → Type 0
-Named Add w s (Ok (asks.Edit (edit.Add t))) = t.now ≡ s
-Named Add w s (Ok asks.Nothing) = ⊥
-Named Add w s (Ok (asks.Edit (edit.Mend n t))) = ⊥
-Named Add w s (Ok (asks.Edit edit.Strike)) = ⊥
-Named Add w s (Ok asks.List) = ⊥
-Named Add w s (Ok asks.Help) = ⊥
-Named Add w s (Err y) = ⊥
-Named Mend w s r = Mends s r
-Named Strike w s r = Alone (asks.Edit edit.Strike) w s r
-Named Listing w s r = Alone asks.List w s r
-Named Help w s r = Alone asks.Help w s r
-Named Other w s (Err (why.NoCommand t)) = t.now ≡ w
-Named Other w s (Err (why.NothingMore t)) = ⊥
-Named Other w s (Err why.NoNumber) = ⊥
-Named Other w s (Err (why.BadNumber t)) = ⊥
-Named Other w s (Ok c) = ⊥
+abbrev pub Named : Option Verb → Text → Text → Result Command Reason → Type 0
+Named (Some Add) w s (Ok (asks.Edit (edit.Add t))) = t.now ≡ s
+Named (Some Add) w s _ = ⊥
+Named (Some Mend) w s r = Mends s r
+Named (Some Strike) w s r = Alone (asks.Edit edit.Strike) w s r
+Named (Some Listing) w s r = Alone asks.List w s r
+Named (Some Help) w s r = Alone asks.Help w s r
+Named None w s (Err (why.NoCommand t)) = t.now ≡ w
+Named None w s _ = ⊥
 
+-- what is no remark asks for something
 abbrev pub Says : Bool → Text → Text → Answer → Type 0
-Says true w s r = r ≡ Ok asks.Nothing
-Says false w s r = Named (name_of w) w s r
+Says true w s r = r ≡ Ok None
+Says false w s (Ok (Some c)) = Named (verb_of w) w s (Ok c)
+Says false w s (Ok None) = ⊥
+Says false w s (Err y) = Named (verb_of w) w s (Err y)
 
 -- n bytes of white space lead, and no more
 abbrev pub Leading : ℕ → Text → Type 0

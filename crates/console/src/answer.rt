@@ -27,7 +27,7 @@ fn visible(byte: u8) -> char
 }
 
 // Bytes that need not be text, one column each.
-#[derive(Clone, Copy)]
+#[derive(Clone, Copy, PartialEq, Eq, Debug)]
 pub(crate) struct Shown<'a>(pub(crate) &'a [u8]);
 
 impl fmt::Display for Shown<'_> {
@@ -43,7 +43,7 @@ impl fmt::Display for Shown<'_> {
 }
 
 // A refusal of the draft, and the text that was refused.
-#[derive(Clone, Copy)]
+#[derive(Clone, Copy, PartialEq, Eq, Debug)]
 pub(crate) struct Refusal<'a> {
     pub(crate) fault: Fault,
     pub(crate) text: &'a [u8],
@@ -54,10 +54,7 @@ impl Refusal<'_> {
     fn stops_early(&self) -> bool
         ensures { result ≡ too_early self.now }
     {
-        match self.fault.kind {
-            Kind::NotALine => self.text.len() < self.fault.column,
-            _ => false,
-        }
+        self.fault.kind == Kind::NotALine && self.text.len() < self.fault.column
     }
 }
 
@@ -65,8 +62,7 @@ impl Refusal<'_> {
 impl fmt::Display for Refusal<'_> {
     fn fmt<W: fmt::Write>(&self, f: &mut fmt::Formatter<W>) -> fmt::Result {
         let fault = self.fault;
-        let kind = fault.kind;
-        let column = fault.column;
+        let Fault { kind, column, .. } = fault;
         write!(f, "refused {fault}\n    ")?;
         if self.stops_early() {
             f.write_str("the text stops too early to be a line")?;
@@ -74,9 +70,7 @@ impl fmt::Display for Refusal<'_> {
             write!(f, "{kind}")?;
         }
         if column > 0 {
-            let text = Shown(self.text);
-            let mark = '^';
-            write!(f, "\n    {text}\n    {mark:>column$}")?;
+            write!(f, "\n    {}\n    {:>column$}", Shown(self.text), '^')?;
         }
         Ok(())
     }
@@ -86,18 +80,11 @@ impl fmt::Display for Reason<'_> {
     fn fmt<W: fmt::Write>(&self, f: &mut fmt::Formatter<W>) -> fmt::Result {
         match self {
             Reason::NoCommand(name) => {
-                let name = Shown(name);
-                write!(f, "no command is called {name}; help lists them")
+                write!(f, "no command is called {}; help lists them", Shown(name))
             }
-            Reason::NothingMore(name) => {
-                let name = Shown(name);
-                write!(f, "nothing may follow {name}")
-            }
+            Reason::NothingMore(name) => write!(f, "nothing may follow {}", Shown(name)),
             Reason::NoNumber => f.write_str("mend takes a line number and a text"),
-            Reason::BadNumber(digits) => {
-                let digits = Shown(digits);
-                write!(f, "{digits} is no line number")
-            }
+            Reason::BadNumber(digits) => write!(f, "{} is no line number", Shown(digits)),
         }
     }
 }

@@ -5,7 +5,7 @@ mod answer;
 mod command;
 mod session;
 
-use anyhow::anyhow;
+use anyhow::{anyhow, bail};
 use session::talk;
 use std::env;
 use std::fs::File;
@@ -19,12 +19,10 @@ fn run(rt: &HostRuntime) -> anyhow::Result<()> {
         return talk(rt, rt.alloc(), BufReader::new(rt.alloc(), rt.stdin())?);
     };
     if args.next().is_some() {
-        return Err(anyhow!("at most one file can be named"));
+        bail!("at most one file can be named");
     }
-    match File::open(rt, path.as_str()) {
-        Ok(file) => talk(rt, rt.alloc(), BufReader::new(rt.alloc(), file)?),
-        Err(e) => Err(anyhow!(format!(in rt.alloc(); "{path}: {e}")?)),
-    }
+    let file = File::open(rt, path.as_str()).map_err(|e| anyhow!("{path}: {e}"))?;
+    talk(rt, rt.alloc(), BufReader::new(rt.alloc(), file)?)
 }
 
 fn main(rt: HostRuntime) -> anyhow::Result<()> {

@@ -1,6 +1,5 @@
 // A session: commands in, answers out.
 ghost use Rattle.std.specs.Prelude.{◌≡◌};
-ghost use Rattle.draft.specs.Plain.{lines_of};
 ghost use Rattle.console.specs.Changes.{changed, Heeds};
 
 use crate::answer::{HELP, Refusal, Shown};
@@ -15,8 +14,7 @@ use std::io::BufRead;
 // The text that the edit brings.
 fn text_of(edit: Edit<'_>) -> &[u8] {
     match edit {
-        Edit::Add(text) => text,
-        Edit::Mend(_, text) => text,
+        Edit::Add(text) | Edit::Mend(_, text) => text,
         Edit::Strike => b"",
     }
 }
@@ -24,10 +22,8 @@ fn text_of(edit: Edit<'_>) -> &[u8] {
 // The number of the line that is kept or gone, or the refusal.
 fn tell(rt: &impl Print, edit: Edit<'_>, answer: Result<usize, Fault>) -> io::Result<()> {
     match answer {
-        Ok(number) => match edit {
-            Edit::Strike => println!(rt; "struck line {number}"),
-            _ => println!(rt; "line {number}"),
-        },
+        Ok(number) if edit == Edit::Strike => println!(rt; "struck line {number}"),
+        Ok(number) => println!(rt; "line {number}"),
         Err(fault) => rt.println(Refusal {
             fault,
             text: text_of(edit),
@@ -38,30 +34,25 @@ fn tell(rt: &impl Print, edit: Edit<'_>, answer: Result<usize, Fault>) -> io::Re
 fn list_line(rt: &impl Print, draft: &Draft, number: usize) -> io::Result<()> {
     let mut buffer = [0u8; LONGEST];
     match draft.print(number, &mut buffer) {
-        Ok(size) => {
-            let text = Shown(&buffer[0..size]);
-            println!(rt; "{number:>2}  {text}")
-        }
+        Ok(size) => println!(rt; "{number:>2}  {}", Shown(&buffer[..size])),
         Err(fault) => rt.println(Refusal { fault, text: b"" }),
     }
 }
 
 fn list(rt: &impl Print, draft: &Draft) -> io::Result<()> {
-    let size = draft.len();
-    if size == 0 {
+    if draft.len() == 0 {
         return rt.println("no lines");
     }
-    for number in 1..=size {
+    for number in 1..=draft.len() {
         list_line(rt, draft, number)?;
     }
     Ok(())
 }
 
 fn obey(rt: &impl Print, draft: &mut Draft, command: Command<'_>) -> io::Result<()>
-    ensures { lines_of draft.new ≡ changed command.entry (lines_of draft.old) }
+    ensures { draft.new ≡ changed command.entry draft.old }
 {
     match command {
-        Command::Nothing => Ok(()),
         Command::Edit(edit) => tell(rt, edit, draft.apply(edit)),
         Command::List => list(rt, draft),
         Command::Help => rt.println(HELP),
@@ -69,10 +60,11 @@ fn obey(rt: &impl Print, draft: &mut Draft, command: Command<'_>) -> io::Result<
 }
 
 fn answer(rt: &impl Print, draft: &mut Draft, line: &[u8]) -> io::Result<()>
-    ensures { Heeds line.now (lines_of draft.old) (lines_of draft.new) }
+    ensures { Heeds line.now draft.old draft.new }
 {
     match Command::parse(line) {
-        Ok(command) => obey(rt, draft, command),
+        Ok(Some(command)) => obey(rt, draft, command),
+        Ok(None) => Ok(()),
         Err(reason) => println!(rt; "not done: {reason}"),
     }
 }
@@ -86,7 +78,7 @@ pub(crate) fn talk<B: BufRead + Drop>(
     let mut draft = Draft::new(heap)?;
     for part in input.split(heap, b'\n') {
         let line = part?;
-        answer(rt, &mut draft, line.as_slice())?;
+        answer(rt, &mut draft, &line)?;
     }
     Ok(())
 }

@@ -1,23 +1,17 @@
 -- The plain list of lines, and what each call does to it. Assumes nothing.
-use Rattle.std.specs.Prelude.{◌≡◌, ℕ, ◌+◌, ◌-◌, ◌≤◌, Bool, cond, ◌||◌, List, [], ◌∷◌, ◌++◌, length, take, drop, ℤ, Some, None, Ok, Err, vec_items, Option, Result, ◌==◌, nat_le, nat_lt, slice_set}
+use Rattle.std.specs.Prelude.{◌≡◌, ℕ, ◌+◌, ◌-◌, ◌≤◌, Bool, cond, ◌||◌, List, [], ◌∷◌, ◌++◌, length, take, drop, ℤ, Some, None, Ok, Err, Option, Result, ◌==◌, nat_le, nat_lt, slice_set}
 use Rattle.std.specs.List.{slice_get}
 use Rattle.fault.specs.declared.Fault.{Fault}
 use Rattle.fault.specs.declared.Flaw.{Flaw}
-use Rattle.fault.specs.declared.Kind.{Kind}
 use Rattle.fault.specs.declared.Kind.TheVariants.{DraftFull, NoSuchLine, ShortBuffer}
-use Rattle.fault.specs.Table.{placed}
+use Rattle.fault.specs.Table.{placed, plain_fault}
 use Rattle.line.specs.declared.syntax.Line.{Line}
 use Rattle.line.specs.Grammar.{printed}
 use Rattle.line.specs.Readings.{reading}
 use Rattle.line.specs.Words.{Text}
-use Rattle.draft.specs.declared.draft.Draft.{Draft}
 
 abbrev pub Lines : Type 0
 Lines = List (Line ℤ)
-
--- the lines of a draft
-abbrev pub lines_of : Draft → Lines
-lines_of d = vec_items d.lines
 
 -- what a call answers, and the lines that it leaves
 pub record Outcome : Type 0 where
@@ -30,10 +24,6 @@ accepts k after = record { answer = Ok k; lines = after }
 -- a refusal leaves the lines as they were
 abbrev pub refuses : Fault → Lines → Outcome
 refuses f ls = record { answer = Err f; lines = ls }
-
--- a refusal where no column has a meaning
-abbrev pub plain_fault : Kind → ℕ → Fault
-plain_fault k n = record { kind = k; line = n; column = 0 }
 
 -- where the text reads as a line, go on with it; else the flaw, as one of line n
 abbrev pub with_line : ℕ → Lines → Result (Line ℤ) Flaw → (Line ℤ → Outcome) → Outcome

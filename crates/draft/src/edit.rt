@@ -1,6 +1,6 @@
 // Edits as values, and whole lists of them.
 ghost use Rattle.std.specs.Prelude.{◌≡◌, ◌+◌, ◌≤◌, [], ◌++◌, length, IfOk, vec_len, vec_capacity, MatchResult};
-ghost use Rattle.draft.specs.Plain.{lines_of, Answered};
+ghost use Rattle.draft.specs.Plain.{Answered};
 ghost use Rattle.draft.specs.Edits.{edited, fed, answers, Fed};
 
 use crate::draft::Draft;
@@ -8,7 +8,7 @@ use fault::Fault;
 use std::alloc::{AllocError, Global};
 
 // One call that changes a draft.
-#[derive(Clone, Copy)]
+#[derive(Clone, Copy, PartialEq, Eq, Debug)]
 pub enum Edit<'a> {
     Add(&'a [u8]),
     Mend(usize, &'a [u8]),
@@ -18,7 +18,7 @@ pub enum Edit<'a> {
 impl Draft {
     // Makes the call that the edit stands for.
     pub fn apply(&mut self, edit: Edit<'_>) -> Result<usize, Fault>
-        ensures { Answered (edited edit.entry (lines_of self.old)) result (lines_of self.new) }
+        ensures { Answered (edited edit.entry self.old) result self.new }
     {
         match edit {
             Edit::Add(text) => self.add(text),
@@ -28,14 +28,14 @@ impl Draft {
     }
 
     // Makes the calls in their order, and puts the answer to each behind those that are there.
+    // No chain of iterators: a closure that changes the draft leaves a proof knowing nothing of the draft.
     fn feed(&mut self, edits: &[Edit<'_>], said: &mut Vec<Result<usize, Fault>>)
         requires { vec_len said.old + length edits.now ≤ vec_capacity said.old }
-        ensures lines { lines_of self.new ≡ fed edits.now (lines_of self.old) }
-        ensures said { said.new.items ≡ said.old.items ++ answers edits.now (lines_of self.old) }
+        ensures lines { self.new ≡ fed edits.now self.old }
+        ensures said { said.new.items ≡ said.old.items ++ answers edits.now self.old }
     {
         for edit in edits {
-            let answer = self.apply(*edit);
-            said.push_reserved(answer);
+            said.push_reserved(self.apply(*edit));
         }
     }
 
@@ -46,7 +46,7 @@ impl Draft {
         heap: Global,
         edits: &[Edit<'_>],
     ) -> Result<Vec<Result<usize, Fault>>, AllocError>
-        ensures { MatchResult result (λ v. Fed edits.now (lines_of self.old) (lines_of self.new) v.items) (λ _. lines_of self.new ≡ lines_of self.old) }
+        ensures { MatchResult result (λ v. Fed edits.now self.old self.new v.items) (λ _. self.new ≡ self.old) }
     {
         let mut said = Vec::with_capacity(heap, edits.len())?;
         self.feed(edits, &mut said);
@@ -63,7 +63,7 @@ pub struct Replayed {
 
 // Makes the calls in their order on a draft that opens empty.
 pub fn replay(heap: Global, edits: &[Edit<'_>]) -> Result<Replayed, AllocError>
-    ensures { IfOk result (λ p. Fed edits.now [] (lines_of p.draft) p.answers.items) }
+    ensures { IfOk result (λ p. Fed edits.now [] p.draft p.answers.items) }
 {
     let mut draft = Draft::new(heap)?;
     let answers = draft.apply_all(heap, edits)?;

@@ -41,6 +41,10 @@ layer_of DeadEnd = Seal
 layer_of TooManyExpressions = Seal
 layer_of ShortBuffer = Text
 
+-- what is wrong in one text, at a column of it
+abbrev pub flaw_at : Kind → ℕ → Flaw
+flaw_at k n = record { kind = k; column = n }
+
 -- a flaw of the text on a line
 abbrev pub placed : Flaw → ℕ → Fault
 placed f n = record { kind = f.kind; line = n; column = f.column }

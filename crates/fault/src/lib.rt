@@ -3,7 +3,7 @@
 
 ghost use Rattle.std.specs.Prelude.{◌≡◌, Some};
 ghost use Rattle.fault.specs.Shown.{layer_text, fault_text};
-ghost use Rattle.fault.specs.Table.{layer_of, number_of, placed, plain_fault};
+ghost use Rattle.fault.specs.Table.{layer_of, number_of, flaw_at, placed, plain_fault};
 
 use std::fmt;
 
@@ -15,52 +15,54 @@ pub enum Layer {
     Seal,
 }
 
-// What is wrong.
+// What is wrong, by the number under which it is known.
 #[derive(Clone, Copy, PartialEq, Eq, Debug)]
 pub enum Kind {
     // a text of more than 80 bytes
-    TooLong,
+    TooLong = 1,
     // a byte that no line has
-    ForeignByte,
+    ForeignByte = 2,
     // tokens that spell no line
-    NotALine,
+    NotALine = 3,
     // a number that 32 signed bits do not hold
-    OutOfRange,
+    OutOfRange = 4,
     // a line more than a draft can hold
-    DraftFull,
+    DraftFull = 5,
     // a line number that the draft does not have
-    NoSuchLine,
+    NoSuchLine = 6,
     // a draft without lines
-    NoLines,
+    NoLines = 7,
     // a label that an earlier line has
-    RepeatedLabel,
+    RepeatedLabel = 8,
     // a successor label that stands on no line
-    UnknownSuccessor,
+    UnknownSuccessor = 9,
     // no line that halts, or a second one
-    NotOneHalt,
+    NotOneHalt = 10,
     // an edge that leads to the first line
-    EdgeToEntry,
+    EdgeToEntry = 11,
     // a line that the first line cannot reach
-    Unreachable,
+    Unreachable = 12,
     // a line that cannot reach the halt
-    DeadEnd,
+    DeadEnd = 13,
     // an expression more than a program can have
-    TooManyExpressions,
+    TooManyExpressions = 14,
     // a buffer shorter than the text to be printed
-    ShortBuffer,
+    ShortBuffer = 16,
 }
 
-// What is wrong in one text, and at which column of it; 0 where no column has a meaning.
+// What is wrong in one text, and at which column of it.
 #[derive(Clone, Copy, PartialEq, Eq, Debug)]
 pub struct Flaw {
     pub kind: Kind,
+    // no Option: it is a rule of the project that a column without a meaning is 0, and is printed so
     pub column: usize,
 }
 
-// What is wrong, on which line of the draft and at which column; 0 where either has no meaning.
+// What is wrong, on which line of the draft and at which column.
 #[derive(Clone, Copy, PartialEq, Eq, Debug)]
 pub struct Fault {
     pub kind: Kind,
+    // no Options: it is a rule of the project that a line or column without a meaning is 0, and is printed so
     pub line: usize,
     pub column: usize,
 }
@@ -70,21 +72,20 @@ impl Kind {
         ensures { result ≡ layer_of self }
     {
         match self {
-            Kind::TooLong => Layer::Text,
-            Kind::ForeignByte => Layer::Text,
-            Kind::NotALine => Layer::Text,
-            Kind::OutOfRange => Layer::Text,
-            Kind::DraftFull => Layer::Draft,
-            Kind::NoSuchLine => Layer::Draft,
-            Kind::NoLines => Layer::Seal,
-            Kind::RepeatedLabel => Layer::Seal,
-            Kind::UnknownSuccessor => Layer::Seal,
-            Kind::NotOneHalt => Layer::Seal,
-            Kind::EdgeToEntry => Layer::Seal,
-            Kind::Unreachable => Layer::Seal,
-            Kind::DeadEnd => Layer::Seal,
-            Kind::TooManyExpressions => Layer::Seal,
-            Kind::ShortBuffer => Layer::Text,
+            Kind::TooLong
+            | Kind::ForeignByte
+            | Kind::NotALine
+            | Kind::OutOfRange
+            | Kind::ShortBuffer => Layer::Text,
+            Kind::DraftFull | Kind::NoSuchLine => Layer::Draft,
+            Kind::NoLines
+            | Kind::RepeatedLabel
+            | Kind::UnknownSuccessor
+            | Kind::NotOneHalt
+            | Kind::EdgeToEntry
+            | Kind::Unreachable
+            | Kind::DeadEnd
+            | Kind::TooManyExpressions => Layer::Seal,
         }
     }
 
@@ -92,23 +93,14 @@ impl Kind {
     pub fn number(self) -> u8
         ensures { result ≡ number_of self }
     {
-        match self {
-            Kind::TooLong => 1,
-            Kind::ForeignByte => 2,
-            Kind::NotALine => 3,
-            Kind::OutOfRange => 4,
-            Kind::DraftFull => 5,
-            Kind::NoSuchLine => 6,
-            Kind::NoLines => 7,
-            Kind::RepeatedLabel => 8,
-            Kind::UnknownSuccessor => 9,
-            Kind::NotOneHalt => 10,
-            Kind::EdgeToEntry => 11,
-            Kind::Unreachable => 12,
-            Kind::DeadEnd => 13,
-            Kind::TooManyExpressions => 14,
-            Kind::ShortBuffer => 16,
-        }
+        self as u8
+    }
+
+    // What is wrong, at that column of one text.
+    pub fn at(self, column: usize) -> Flaw
+        ensures { result ≡ flaw_at self column }
+    {
+        Flaw { kind: self, column }
     }
 
     // A refusal of that line, where no column has a meaning.
@@ -140,36 +132,35 @@ impl fmt::Display for Layer {
     ghost output = { λ l. Some (layer_text l) };
 
     fn fmt<W: fmt::Write>(&self, f: &mut fmt::Formatter<W>) -> fmt::Result {
-        match self {
-            Layer::Text => f.write_str("text"),
-            Layer::Draft => f.write_str("draft"),
-            Layer::Seal => f.write_str("seal"),
-        }
+        f.write_str(match self {
+            Layer::Text => "text",
+            Layer::Draft => "draft",
+            Layer::Seal => "seal",
+        })
     }
 }
 
 // What the refusal means, for a person.
 impl fmt::Display for Kind {
     fn fmt<W: fmt::Write>(&self, f: &mut fmt::Formatter<W>) -> fmt::Result {
-        match self {
-            Kind::TooLong => f.write_str("a line has at most 80 bytes"),
-            Kind::ForeignByte => f.write_str(
+        f.write_str(match self {
+            Kind::TooLong => "a line has at most 80 bytes",
+            Kind::ForeignByte =>
                 "no line has this byte: only a to z, 0 to 9, + - * / % < = & > and spaces",
-            ),
-            Kind::NotALine => f.write_str("no line goes on like this"),
-            Kind::OutOfRange => f.write_str("a number lies between -2147483648 and 2147483647"),
-            Kind::DraftFull => f.write_str("a draft has at most 96 lines"),
-            Kind::NoSuchLine => f.write_str("the draft has no such line"),
-            Kind::NoLines => f.write_str("the draft has no lines"),
-            Kind::RepeatedLabel => f.write_str("an earlier line has this label"),
-            Kind::UnknownSuccessor => f.write_str("a successor label stands on no line"),
-            Kind::NotOneHalt => f.write_str("exactly one line of a program halts"),
-            Kind::EdgeToEntry => f.write_str("no line may lead to the first line"),
-            Kind::Unreachable => f.write_str("the first line cannot reach this line"),
-            Kind::DeadEnd => f.write_str("this line cannot reach the line that halts"),
-            Kind::TooManyExpressions => f.write_str("a program has at most 64 expressions"),
-            Kind::ShortBuffer => f.write_str("the buffer is shorter than the line to be printed"),
-        }
+            Kind::NotALine => "no line goes on like this",
+            Kind::OutOfRange => "a number lies between -2147483648 and 2147483647",
+            Kind::DraftFull => "a draft has at most 96 lines",
+            Kind::NoSuchLine => "the draft has no such line",
+            Kind::NoLines => "the draft has no lines",
+            Kind::RepeatedLabel => "an earlier line has this label",
+            Kind::UnknownSuccessor => "a successor label stands on no line",
+            Kind::NotOneHalt => "exactly one line of a program halts",
+            Kind::EdgeToEntry => "no line may lead to the first line",
+            Kind::Unreachable => "the first line cannot reach this line",
+            Kind::DeadEnd => "this line cannot reach the line that halts",
+            Kind::TooManyExpressions => "a program has at most 64 expressions",
+            Kind::ShortBuffer => "the buffer is shorter than the line to be printed",
+        })
     }
 }
 
@@ -178,10 +169,13 @@ impl fmt::Display for Fault {
     ghost output = { λ f. Some (fault_text f) };
 
     fn fmt<W: fmt::Write>(&self, f: &mut fmt::Formatter<W>) -> fmt::Result {
-        let layer = self.kind.layer();
-        let number = self.kind.number();
-        let line = self.line;
-        let column = self.column;
-        write!(f, "{layer} {number} {line} {column}")
+        write!(
+            f,
+            "{} {} {} {}",
+            self.kind.layer(),
+            self.kind.number(),
+            self.line,
+            self.column
+        )
     }
 }
