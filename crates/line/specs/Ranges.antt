@@ -1,7 +1,7 @@
 -- Numbers that 32 signed bits do not hold. Assumes nothing.
-use Rattle.std.specs.Prelude.{ℕ, Bool, true, false, cond, List, [], ◌∷◌, ℤ, Some, None, Option}
-use Rattle.numeral.specs.declared.Numeral.{Numeral}
-use Rattle.numeral.specs.declared.Numeral.TheVariants.{NotANumber, OutOfRange, Value}
+use Rattle.std.specs.Prelude.{ℕ, Bool, true, false, cond, List, [], ◌∷◌, ℤ, Some, None, Ok, Err, Option, Result}
+use Rattle.numeral.specs.declared.NumeralError.{NumeralError}
+use Rattle.numeral.specs.declared.NumeralError.TheVariants.{NotANumber, OutOfRange}
 use Rattle.numeral.specs.Numbers.{numeral_spelt, narrow_of}
 use Rattle.line.specs.declared.syntax.Action.{Action}
 use Rattle.line.specs.declared.syntax.Action.TheVariants.{Pass, Set, Compute, Get, Put}
@@ -13,10 +13,10 @@ use Rattle.line.specs.declared.syntax.Statement.TheVariants.{Then, If, Halt}
 use Rattle.line.specs.Pieces.{Piece}
 use Rattle.line.specs.Words.{Text}
 
-abbrev pub past_range : Numeral → Bool
-past_range NotANumber = false
-past_range OutOfRange = true
-past_range (Value z) = false
+abbrev pub past_range : Result ℤ NumeralError → Bool
+past_range (Ok z) = false
+past_range (Err NotANumber) = false
+past_range (Err OutOfRange) = true
 
 -- a token that is a number, but out of range
 abbrev pub is_beyond : Text → Bool

@@ -5,15 +5,12 @@ ghost use Rattle.line.specs.Ranges.{is_beyond, beyond_at, narrowed_operand, narr
 
 use crate::cursor::Cursor;
 use crate::syntax::{Action, Line, Operand, Statement};
-use numeral::{Numeral, numeral_of};
+use numeral::{NumeralError, numeral_of};
 
 fn beyond(token: &[u8]) -> bool
     ensures { result ≡ is_beyond token.now }
 {
-    match numeral_of(token) {
-        Numeral::OutOfRange => true,
-        Numeral::NotANumber | Numeral::Value(_) => false,
-    }
+    numeral_of(token) == Err(NumeralError::OutOfRange)
 }
 
 // The column of the first number that 32 signed bits do not hold.
