@@ -13,9 +13,9 @@ use Rattle.line.specs.Grammar.{spell, spell_action, spell_statement, spell_opera
 use Rattle.line.specs.Pieces.{Piece}
 use Rattle.line.specs.Readings.{texts}
 use Rattle.line.specs.States.{State, start, named, setting, sourcing, held, joining, putting, testing, acted, tested, leading, branching, forking, done, line, onto, begun, either_op, step, closed, run, follow}
-use Rattle.line.specs.Words.{Text, exactly, label_text, variable_text, variable_of, label_of, operand_spelt, word_of}
+use Rattle.line.specs.Words.{Text, exactly, label_text, variable_text, variable_of, label_of, operand_spelt, keyword_of}
 use Rattle.line.proofs.Runs.{sourced_other}
-use Rattle.line.specs.Tokens.{label_back, operand_back, operand_word, variable_back, variable_word, op_back}
+use Rattle.line.specs.Tokens.{label_back, operand_back, operand_keyword, variable_back, variable_keyword, op_back}
 
 abbrev pub on : Option State → (State → Option State) → Option State
 on None f = None
@@ -32,11 +32,11 @@ pub none_some : {A : Type 0} (a : A) → None ≡ Some a → ⊥
 none_some a e = let z : ◌≡◌ {A = ℕ} 0 1 = cc in omega arith
 
 -- a walk to a line is a run to it
-pub run_walk : (end : ℕ) (s : State) (ps : List Piece) (x : Line ℤ) → walk s (texts ps) ≡ Some (done x) → run end s ps ≡ Ok x
-run_walk end s [] x e = let same : s ≡ done x = cc in ap (closed end) same
-run_walk end s (p ∷ ps) x e =
-    (elim (step s p.text) as (λ o. on o (λ u. walk u (texts ps)) ≡ Some (done x) → follow p.column o (λ u. run end u ps) ≡ Ok x)
-    [ None ↦ λ q. absurd (none_some (done x) q) | Some u ↦ λ q. run_walk end u ps x q ]) e
+pub run_walk : (s : State) (ps : List Piece) (x : Line ℤ) → walk s (texts ps) ≡ Some (done x) → run s ps ≡ Ok x
+run_walk s [] x e = let same : s ≡ done x = cc in ap closed same
+run_walk s (p ∷ ps) x e =
+    (elim (step s p.text) as (λ o. on o (λ u. walk u (texts ps)) ≡ Some (done x) → follow p.column o (λ u. run u ps) ≡ Ok x)
+    [ None ↦ λ q. absurd (none_some (done x) q) | Some u ↦ λ q. run_walk u ps x q ]) e
 
 label_step : (k : Label → State) (a : Label) → onto (label_of (label_text a)) k ≡ Some (k a)
 label_step k a = ap (λ o. onto o k) (label_back a)
@@ -52,7 +52,7 @@ arrow_action : (l : Label) (a : Action ℤ) (n : Label) → walk (acted l a) (co
 arrow_action l a n = to (acted l a) (leading l a) (codes "->") (label_text n ∷ []) _ refl (after_action l a n)
 
 setting_step : (l : Label) (v : Variable) → step (named l) (variable_text v) ≡ Some (setting l v)
-setting_step l v = ap (λ w. begun l w (variable_of (variable_text v))) (variable_word v) ∙ ap (λ y. onto y (setting l)) (variable_back v)
+setting_step l v = ap (λ w. begun l w (variable_of (variable_text v))) (variable_keyword v) ∙ ap (λ y. onto y (setting l)) (variable_back v)
 
 -- v =
 source_walk : (l : Label) (v : Variable) (ts : List Text) (r : Option State) → walk (sourcing l v) ts ≡ r → walk (named l) (variable_text v ∷ codes "=" ∷ ts) ≡ r
@@ -65,7 +65,7 @@ held_walk : (l : Label) (v : Variable) (o : Operand ℤ) (ts : List Text) (r : O
 held_walk l v o ts r p h =
     source_walk l v (spell_operand o ∷ ts) r
     (to (sourcing l v) (held l v o) (spell_operand o) ts r
-    (sourced_other l v (word_of (spell_operand o)) (operand_spelt (spell_operand o)) (operand_word o p) ∙ operand_step (held l v) o p) h)
+    (sourced_other l v (keyword_of (spell_operand o)) (operand_spelt (spell_operand o)) (operand_keyword o p) ∙ operand_step (held l v) o p) h)
 
 action_walk : (l : Label) (a : Action ℤ) (n : Label) → EachAction Short a → walk (named l) (spell_action a ++ codes "->" ∷ label_text n ∷ []) ≡ Some (done (line l (Then a n)))
 action_walk l Pass n p = to (named l) (acted l Pass) (codes "pass") (codes "->" ∷ label_text n ∷ []) _ refl (arrow_action l Pass n)

@@ -1,4 +1,5 @@
 pub mod Classes
+pub mod Cursors
 pub mod Grammar
 pub mod Names
 pub mod Pieces

@@ -1,5 +1,5 @@
 // Numbers that 32 signed bits do not hold.
-ghost use Rattle.std.specs.Prelude.{◌≡◌, ◌^◌, ◌<◌, length};
+ghost use Rattle.std.specs.Prelude.{◌≡◌};
 ghost use Rattle.line.specs.Pieces.{pieces};
 ghost use Rattle.line.specs.Ranges.{is_beyond, beyond_at, narrowed_operand, narrowed_action, narrowed_statement, narrowed_line};
 
@@ -15,16 +15,11 @@ fn beyond(token: &[u8]) -> bool
 
 // The column of the first number that 32 signed bits do not hold.
 pub(crate) fn first_beyond(text: &[u8]) -> Option<usize>
-    requires { length text.now < 2 ^ 63 }
     ensures { result ≡ beyond_at (pieces 1 text.now) }
 {
-    let mut cursor = Cursor::new(text);
-    while let Some(token) = cursor.next() {
-        if beyond(token.text) {
-            return Some(token.column);
-        }
-    }
-    None
+    Cursor::new(text)
+        .find(|token| beyond(token.text))
+        .map(|token| token.column)
 }
 
 fn narrow_operand(operand: Operand<i64>) -> Option<Operand>
