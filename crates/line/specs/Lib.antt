@@ -5,7 +5,6 @@ pub mod Names
 pub mod Pieces
 pub mod Ranges
 pub mod Readings
-pub mod Sheets
 pub mod States
 pub mod Words
 pub mod Tokens
