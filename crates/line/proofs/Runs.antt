@@ -1,6 +1,5 @@
 -- How one token moves a run on. Assumes nothing.
-use Rattle.std.proofs.Common.{◌≡◌, List, [], ◌∷◌, ℤ, Some, None, Ok, Err, codes, Option, Result, sym, refl, ap, ◌∙◌, subst}
-use Rattle.std.specs.Option.{ok_or}
+use Rattle.std.proofs.Common.{◌≡◌, List, [], ◌∷◌, ℤ, Some, None, Ok, Err, codes, Option, Result, sym, refl, ap, ◌∙◌}
 use Rattle.line.specs.declared.cursor.Token.{Token}
 use Rattle.line.specs.declared.label.Label.{Label}
 use Rattle.line.specs.declared.parse.Stop.{Stop}
@@ -12,15 +11,17 @@ use Rattle.line.specs.declared.word.Keyword.{Keyword}
 use Rattle.line.specs.declared.word.Keyword.TheVariants.{Pass, Halt, If, Get, Put}
 use Rattle.line.specs.Pieces.{Piece}
 use Rattle.line.specs.Words.{Text, exactly, keyword_of, variable_of, operand_spelt}
-use Rattle.line.specs.States.{State, held, named, sourcing, setting, Joined, Assigned, Gave, Took, run, step, onto, follow, begun, sourced}
+use Rattle.line.specs.States.{State, held, named, sourcing, setting, Joined, Assigned, Gave, TookBy, Takes, Took, run, step, onto, follow, begun, sourced}
 
-pub took : {A : Type 0} (f : Text → Option A) (ps : List Piece) (t : Token) (r : Result A Stop) (after : List Piece) → Gave ps (Ok t) after → r ≡ ok_or (f t.text.now) (At t.column) → Took f ps r after
-took f [] t r after g e = absurd g
-took {A} f (p ∷ ps) t r after g e =
-    let at : (o : Option A) → f p.text ≡ o → Took f (p ∷ ps) (ok_or o (At p.column)) after = λ o. elim o as (λ o. f p.text ≡ o → Took f (p ∷ ps) (ok_or o (At p.column)) after) [ None ↦ λ q. (q, refl) | Some a ↦ λ q. (q, g.1) ] in
-    subst (λ (x : Result A Stop). Took f (p ∷ ps) x after)
-    (sym (e ∙ ap (λ (x : Piece). ok_or (f x.text) (At x.column)) (sym g.0)))
-    (at (f p.text) refl)
+-- a token read by a test that gives what f gives
+took_by : {A : Type 0} (f : Text → Option A) (R : Text → Option A → Type 0) (ps : List Piece) (r : Result A Stop) (after : List Piece) → TookBy R ps r after → ((t : Text) (o : Option A) → R t o → f t ≡ o) → Took f ps r after
+took_by f R [] (Ok a) after g h = g
+took_by f R [] (Err s) after g h = g
+took_by f R (p ∷ ps) (Ok a) after g h = (h p.text (Some a) g.0, g.1)
+took_by f R (p ∷ ps) (Err s) after g h = (h p.text None g.0, g.1)
+
+pub took : {A : Type 0} (f : Text → Option A) {R : Text → Option A → Type 0} {ps : List Piece} {r : Result A Stop} {after : List Piece} → Takes R ps r after → ((t : Text) (o : Option A) → R t o → f t ≡ o) → Took f ps r after
+took f {R} {ps} {r} {after} g h = took_by f R ps r after g.first h
 
 -- a token that the test f takes leads from s where s asks for f
 pub took_run : {A : Type 0} (f : Text → Option A) (ps : List Piece) (a : A) (after : List Piece) (s : State) (k : A → State) → ((t : Text) → step s t ≡ onto (f t) k) → Took f ps (Ok a) after → run s ps ≡ run (k a) after

@@ -143,12 +143,19 @@ Gave [] (Err s) after = s ≡ TooEarly
 Gave (p ∷ ps) (Ok t) after = (p ≡ piece_of t) × (after ≡ ps)
 Gave (p ∷ ps) (Err s) after = ⊥
 
--- what the first token ahead is by the test f
+-- what the first token ahead is by a test that gives the results in R
+abbrev pub TookBy : {A : Type 0} → (Text → Option A → Type 0) → List Piece → Result A Stop → List Piece → Type 0
+TookBy R [] (Ok a) after = ⊥
+TookBy R [] (Err s) after = s ≡ TooEarly
+TookBy R (p ∷ ps) (Ok a) after = R p.text (Some a) × (after ≡ ps)
+TookBy R (p ∷ ps) (Err s) after = R p.text None × (s ≡ At p.column)
+
+pub record Takes {A : Type 0} (R : Text → Option A → Type 0) (ps : List Piece) (r : Result A Stop) (after : List Piece) : Type 0 where
+  pub first : TookBy R ps r after
+
+-- what it is by the test f
 abbrev pub Took : {A : Type 0} → (Text → Option A) → List Piece → Result A Stop → List Piece → Type 0
-Took f [] (Ok a) after = ⊥
-Took f [] (Err s) after = s ≡ TooEarly
-Took f (p ∷ ps) (Ok a) after = (f p.text ≡ Some a) × (after ≡ ps)
-Took f (p ∷ ps) (Err s) after = (f p.text ≡ None) × (s ≡ At p.column)
+Took f ps r after = TookBy (λ t o. f t ≡ o) ps r after
 
 -- after a statement, before its successors
 abbrev pub afterwards : Label → Head → State

@@ -1,9 +1,10 @@
 // The readers of a line's parts. Each takes its tokens from the cursor, and leaves there the part
 // of the line that the next reader goes on with.
 ghost use Rattle.std.specs.Prelude.{◌≡◌};
+ghost use Rattle.std.specs.Fn.{FnOnceReturnsAt};
 ghost use Rattle.line.specs.Cursors.{ahead};
 ghost use Rattle.line.specs.Words.{exactly, label_of, operand_spelt};
-ghost use Rattle.line.specs.States.{Gave, Took, Stated, Assigned, Joined, Pointed, start, run, column_of, parsed};
+ghost use Rattle.line.specs.States.{Gave, Takes, Took, Stated, Assigned, Joined, Pointed, start, run, column_of, parsed};
 
 use crate::cursor::{Cursor, Token};
 use crate::label::Label;
@@ -44,30 +45,32 @@ fn take_token<'a>(cursor: &mut Cursor<'a>) -> Result<Token<'a>, Stop>
     cursor.next().ok_or(Stop::TooEarly)
 }
 
+// The next token, as the test reads it.
+fn take<T: Drop, F: FnOnce(&[u8]) -> Option<T>>(cursor: &mut Cursor<'_>, test: F) -> Result<T, Stop>
+    requires { F.IsAlwaysCallable test }
+    ensures { Takes (FnOnceReturnsAt F.FnOnce test) (ahead cursor.old) result (ahead cursor.new) }
+{
+    let token = take_token(cursor)?;
+    test(token.text).ok_or(Stop::At(token.column))
+}
+
 fn take_label(cursor: &mut Cursor<'_>) -> Result<Label, Stop>
     ensures { Took label_of (ahead cursor.old) result (ahead cursor.new) }
 {
-    let token = take_token(cursor)?;
-    Label::from_token(token.text).ok_or(Stop::At(token.column))
+    take(cursor, |text| Label::from_token(text))
 }
 
 fn take_operand(cursor: &mut Cursor<'_>) -> Result<Operand<i64>, Stop>
     ensures { Took operand_spelt (ahead cursor.old) result (ahead cursor.new) }
 {
-    let token = take_token(cursor)?;
-    operand_of(token.text).ok_or(Stop::At(token.column))
+    take(cursor, |text| operand_of(text))
 }
 
 // A token that is spelt just so.
 fn take_exactly(cursor: &mut Cursor<'_>, spelling: &str) -> Result<(), Stop>
     ensures { Took (exactly spelling.now) (ahead cursor.old) result (ahead cursor.new) }
 {
-    let token = take_token(cursor)?;
-    if is_exactly(token.text, spelling) {
-        Ok(())
-    } else {
-        Err(Stop::At(token.column))
-    }
+    take(cursor, |text| is_exactly(text, spelling).then_some(()))
 }
 
 // What may follow `v = o`: an operator and an operand, or nothing.
