@@ -1,5 +1,7 @@
 -- Numbers that 32 signed bits do not hold. Assumes nothing.
-use Rattle.std.specs.Prelude.{ℕ, Bool, true, false, cond, List, [], ◌∷◌, ℤ, Some, None, Ok, Err, Option, Result}
+use Rattle.std.specs.Prelude.{ℕ, Bool, true, false, List, ℤ, Some, None, Ok, Err, Option, Result}
+use Rattle.std.specs.List.{find}
+use Rattle.std.specs.Option.{option_map}
 use Rattle.numeral.specs.declared.NumeralError.{NumeralError}
 use Rattle.numeral.specs.declared.NumeralError.TheVariants.{NotANumber, OutOfRange}
 use Rattle.numeral.specs.Numbers.{numeral_spelt, narrow_of}
@@ -24,8 +26,7 @@ is_beyond t = past_range (numeral_spelt t)
 
 -- the column of the first such token
 abbrev pub beyond_at : List Piece → Option ℕ
-beyond_at [] = None
-beyond_at (p ∷ ps) = cond (is_beyond p.text) (Some p.column) (beyond_at ps)
+beyond_at ps = option_map (λ p. p.column) (find (λ p. is_beyond p.text) ps)
 
 abbrev pub keep : {A B : Type 0} → Option A → (A → Option B) → Option B
 keep None f = None

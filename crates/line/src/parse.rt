@@ -82,10 +82,7 @@ fn take_second(
     ensures { Joined v first (ahead cursor.old) result (ahead cursor.new) }
 {
     let mut peek = *cursor;
-    let Some(token) = peek.next() else {
-        return Ok(Action::Set(v, first));
-    };
-    let Some(operator) = operator_of(token.text) else {
+    let Some(operator) = peek.next().and_then(|token| operator_of(token.text)) else {
         return Ok(Action::Set(v, first));
     };
     *cursor = peek;
