@@ -1,5 +1,6 @@
 -- How one token moves a run on. Assumes nothing.
 use Rattle.std.proofs.Common.{◌≡◌, List, [], ◌∷◌, ℤ, Some, None, Ok, Err, codes, Option, Result, sym, refl, ap, ◌∙◌}
+use Rattle.std.specs.Option.{option_map}
 use Rattle.line.specs.declared.cursor.Token.{Token}
 use Rattle.line.specs.declared.label.Label.{Label}
 use Rattle.line.specs.declared.parse.Stop.{Stop}
@@ -11,7 +12,7 @@ use Rattle.line.specs.declared.word.Keyword.{Keyword}
 use Rattle.line.specs.declared.word.Keyword.TheVariants.{Pass, Halt, If, Get, Put}
 use Rattle.line.specs.Pieces.{Piece}
 use Rattle.line.specs.Words.{Text, exactly, keyword_of, variable_of, operand_spelt}
-use Rattle.line.specs.States.{State, held, named, sourcing, setting, Joined, Assigned, Gave, TookBy, Takes, Took, run, step, onto, follow, begun, sourced}
+use Rattle.line.specs.States.{State, held, named, sourcing, setting, Joined, Assigned, Gave, TookBy, Takes, Took, run, step, follow, begun, sourced}
 
 -- a token read by a test that gives what f gives
 took_by : {A : Type 0} (f : Text → Option A) (R : Text → Option A → Type 0) (ps : List Piece) (r : Result A Stop) (after : List Piece) → TookBy R ps r after → ((t : Text) (o : Option A) → R t o → f t ≡ o) → Took f ps r after
@@ -24,13 +25,13 @@ pub took : {A : Type 0} (f : Text → Option A) {R : Text → Option A → Type 
 took f {R} {ps} {r} {after} g h = took_by f R ps r after g.first h
 
 -- a token that the test f takes leads from s where s asks for f
-pub took_run : {A : Type 0} (f : Text → Option A) (ps : List Piece) (a : A) (after : List Piece) (s : State) (k : A → State) → ((t : Text) → step s t ≡ onto (f t) k) → Took f ps (Ok a) after → run s ps ≡ run (k a) after
+pub took_run : {A : Type 0} (f : Text → Option A) (ps : List Piece) (a : A) (after : List Piece) (s : State) (k : A → State) → ((t : Text) → step s t ≡ option_map k (f t)) → Took f ps (Ok a) after → run s ps ≡ run (k a) after
 took_run f [] a after s k h g = absurd g
 took_run f (p ∷ ps) a after s k h g =
-    ap (λ o. follow p.column o (λ u. run u ps)) (h p.text ∙ ap (λ o. onto o k) g.0) ∙ ap (run (k a)) (sym g.1)
+    ap (λ o. follow p.column o (λ u. run u ps)) (h p.text ∙ ap (λ o. option_map k o) g.0) ∙ ap (run (k a)) (sym g.1)
 
 -- after `v =`, a token other than `get` is an operand
-pub sourced_other : (l : Label) (v : Variable) (w : Option Keyword) (o : Option (Operand ℤ)) → (w ≡ Some Get → ⊥) → sourced l v w o ≡ onto o (held l v)
+pub sourced_other : (l : Label) (v : Variable) (w : Option Keyword) (o : Option (Operand ℤ)) → (w ≡ Some Get → ⊥) → sourced l v w o ≡ option_map (held l v) o
 sourced_other l v (Some Get) o h = absurd (h refl)
 sourced_other l v (Some Pass) o h = refl
 sourced_other l v (Some Halt) o h = refl
@@ -38,11 +39,11 @@ sourced_other l v (Some If) o h = refl
 sourced_other l v (Some Put) o h = refl
 sourced_other l v None o h = refl
 
-pub source_step : (l : Label) (v : Variable) (t : Text) (o : Option (Operand ℤ)) → (keyword_of t ≡ Some Get → ⊥) → operand_spelt t ≡ o → step (sourcing l v) t ≡ onto o (held l v)
-source_step l v t o h e = sourced_other l v (keyword_of t) (operand_spelt t) h ∙ ap (λ x. onto x (held l v)) e
+pub source_step : (l : Label) (v : Variable) (t : Text) (o : Option (Operand ℤ)) → (keyword_of t ≡ Some Get → ⊥) → operand_spelt t ≡ o → step (sourcing l v) t ≡ option_map (held l v) o
+source_step l v t o h e = sourced_other l v (keyword_of t) (operand_spelt t) h ∙ ap (λ x. option_map (held l v) x) e
 
 -- a keyword, and then an operand
-pub worded : (ps mid after : List Piece) (t : Token) (w : Option Keyword) (o : Operand ℤ) (l : Label) (s : State) (k : Operand ℤ → State) → Gave ps (Ok t) mid → w ≡ keyword_of t.text.now → begun l w (variable_of t.text.now) ≡ Some s → ((x : Text) → step s x ≡ onto (operand_spelt x) k) → Took operand_spelt mid (Ok o) after → run (named l) ps ≡ run (k o) after
+pub worded : (ps mid after : List Piece) (t : Token) (w : Option Keyword) (o : Operand ℤ) (l : Label) (s : State) (k : Operand ℤ → State) → Gave ps (Ok t) mid → w ≡ keyword_of t.text.now → begun l w (variable_of t.text.now) ≡ Some s → ((x : Text) → step s x ≡ option_map k (operand_spelt x)) → Took operand_spelt mid (Ok o) after → run (named l) ps ≡ run (k o) after
 worded [] mid after t w o l s k n e b h g = absurd n
 worded (p ∷ ps) mid after t w o l s k n e b h g =
     ap (λ (x : Piece). follow p.column (begun l (keyword_of x.text) (variable_of x.text)) (λ u. run u ps)) n.0
@@ -56,12 +57,12 @@ module _ (ps mid rest : List Piece) (t : Token) (u : Unit {0}) (v : Variable) (f
   after_equals : (l : Label) → run (setting l v) ps ≡ run (sourcing l v) mid
   after_equals l = took_run (exactly (codes "=")) ps u mid (setting l v) (λ x. sourcing l v) (λ x. refl) first
 
-  sourcing_step : (m : List Piece) → Gave m (Ok t) rest → (l : Label) (o : Option (Operand ℤ)) → o ≡ operand_spelt t.text.now → run (sourcing l v) m ≡ follow t.column (onto o (held l v)) (λ x. run x rest)
+  sourcing_step : (m : List Piece) → Gave m (Ok t) rest → (l : Label) (o : Option (Operand ℤ)) → o ≡ operand_spelt t.text.now → run (sourcing l v) m ≡ follow t.column (option_map (held l v) o) (λ x. run x rest)
   sourcing_step [] g l o e = absurd g
   sourcing_step (p ∷ m) g l o e =
       ap (λ (x : Piece). follow x.column (step (sourcing l v) x.text) (λ y. run y m)) g.0
       ∙ ap (λ y. follow t.column y (λ x. run x m)) (source_step l v t.text.now o other (sym e))
-      ∙ ap (λ (m : List Piece). follow t.column (onto o (held l v)) (λ x. run x m)) (sym g.1)
+      ∙ ap (λ (m : List Piece). follow t.column (option_map (held l v) o) (λ x. run x m)) (sym g.1)
 
   pub assigned_none : None ≡ operand_spelt t.text.now → (l : Label) → run (setting l v) ps ≡ Err (At t.column)
   assigned_none e l = after_equals l ∙ sourcing_step mid next l None e

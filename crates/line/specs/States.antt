@@ -1,5 +1,6 @@
 -- The states that the tokens of a line lead through, and what each reader of a part does to them. Assumes nothing.
 use Rattle.std.specs.Prelude.{◌≡◌, ℕ, ◌+◌, List, [], ◌∷◌, length, ℤ, Some, None, Ok, Err, codes, Option, Result}
+use Rattle.std.specs.Option.{option_map}
 use Rattle.line.specs.declared.cursor.Token.{Token}
 use Rattle.line.specs.declared.label.Label.{Label}
 use Rattle.line.specs.declared.parse.Head.{Head}
@@ -54,10 +55,6 @@ pub data State : Type 0 where
 abbrev pub line : Label → Statement ℤ → Line ℤ
 line l s = record { label = l; statement = s }
 
-abbrev pub onto : {A B : Type 0} → Option A → (A → B) → Option B
-onto None f = None
-onto (Some a) f = Some (f a)
-
 -- the first token of a statement
 abbrev pub begun : Label → Option Keyword → Option Variable → Option State
 begun l (Some Pass) v = Some (acted l act.Pass)
@@ -65,16 +62,16 @@ begun l (Some Halt) v = Some (done (line l says.Halt))
 begun l (Some If) v = Some (testing l)
 begun l (Some Put) v = Some (putting l)
 begun l (Some Get) v = None
-begun l None v = onto v (setting l)
+begun l None v = option_map (setting l) v
 
 -- the token after `v =`
 abbrev pub sourced : Label → Variable → Option Keyword → Option (Operand ℤ) → Option State
 sourced l v (Some Get) o = Some (acted l (act.Get v))
-sourced l v (Some Pass) o = onto o (held l v)
-sourced l v (Some Halt) o = onto o (held l v)
-sourced l v (Some If) o = onto o (held l v)
-sourced l v (Some Put) o = onto o (held l v)
-sourced l v None o = onto o (held l v)
+sourced l v (Some Pass) o = option_map (held l v) o
+sourced l v (Some Halt) o = option_map (held l v) o
+sourced l v (Some If) o = option_map (held l v) o
+sourced l v (Some Put) o = option_map (held l v) o
+sourced l v None o = option_map (held l v) o
 
 abbrev pub either_op : Option Operator → (Operator → State) → Option State → Option State
 either_op (Some p) f s = Some (f p)
@@ -82,19 +79,19 @@ either_op None f s = s
 
 -- where a token leads, if any line has it there
 abbrev pub step : State → Text → Option State
-step start t = onto (label_of t) named
+step start t = option_map named (label_of t)
 step (named l) t = begun l (keyword_of t) (variable_of t)
-step (setting l v) t = onto (exactly (codes "=") t) (λ u. sourcing l v)
+step (setting l v) t = option_map (λ u. sourcing l v) (exactly (codes "=") t)
 step (sourcing l v) t = sourced l v (keyword_of t) (operand_spelt t)
-step (held l v o) t = either_op (operator_spelt t) (joining l v o) (onto (exactly (codes "->") t) (λ u. leading l (act.Set v o)))
-step (joining l v o p) t = onto (operand_spelt t) (λ b. acted l (act.Compute v o p b))
-step (putting l) t = onto (operand_spelt t) (λ o. acted l (act.Put o))
-step (testing l) t = onto (operand_spelt t) (λ o. tested l o)
-step (acted l a) t = onto (exactly (codes "->") t) (λ u. leading l a)
-step (tested l o) t = onto (exactly (codes "->") t) (λ u. branching l o)
-step (leading l a) t = onto (label_of t) (λ n. done (line l (says.Then a n)))
-step (branching l o) t = onto (label_of t) (λ a. forking l o a)
-step (forking l o a) t = onto (label_of t) (λ b. done (line l (says.If o a b)))
+step (held l v o) t = either_op (operator_spelt t) (joining l v o) (option_map (λ u. leading l (act.Set v o)) (exactly (codes "->") t))
+step (joining l v o p) t = option_map (λ b. acted l (act.Compute v o p b)) (operand_spelt t)
+step (putting l) t = option_map (λ o. acted l (act.Put o)) (operand_spelt t)
+step (testing l) t = option_map (λ o. tested l o) (operand_spelt t)
+step (acted l a) t = option_map (λ u. leading l a) (exactly (codes "->") t)
+step (tested l o) t = option_map (λ u. branching l o) (exactly (codes "->") t)
+step (leading l a) t = option_map (λ n. done (line l (says.Then a n))) (label_of t)
+step (branching l o) t = option_map (λ a. forking l o a) (label_of t)
+step (forking l o a) t = option_map (λ b. done (line l (says.If o a b))) (label_of t)
 step (done x) t = None
 
 -- where the tokens end
