@@ -3,13 +3,14 @@ use Rattle.std.proofs.Common.{◌≡◌, ℕ, ◌+◌, ◌≤◌, ltb, List, [],
 use Rattle.std.proofs.lemmas.Bool.{cond_both, cond-false, ltb-true, ltb-false, le-ltb}
 use Rattle.fault.specs.declared.Flaw.{Flaw}
 use Rattle.fault.specs.declared.Kind.TheVariants.{TooLong, ForeignByte}
+use Rattle.line.specs.declared.parse.Stop.{Stop}
 use Rattle.line.specs.declared.syntax.Line.{Line}
 use Rattle.line.specs.Classes.{foreign_at}
 use Rattle.line.specs.Grammar.{spell, printed, Wide, Proper}
 use Rattle.line.specs.Pieces.{pieces}
 use Rattle.line.specs.Ranges.{beyond_at}
 use Rattle.line.specs.Readings.{flaw, ranged, spelt, clean, reading, tokens, Clean, Spells, too_long, foreign, not_a_line, out_of_range, Answers, Reads}
-use Rattle.line.specs.States.{start, done, parsed}
+use Rattle.line.specs.States.{start, done, run, placed, parsed}
 use Rattle.line.specs.Words.{Text}
 use Rattle.line.proofs.Bounds.{Within, within_none, none_within, proper_within, within_proper, proper_wide}
 use Rattle.line.proofs.Made.{run_made}
@@ -17,9 +18,13 @@ use Rattle.line.proofs.Pressed.{printed_tokens, printed_native}
 use Rattle.line.proofs.Viable.{stopped}
 use Rattle.line.proofs.Walks.{walk, run_walk, spell_walk}
 
+placed_ok : (end : ℕ) (r : Result (Line ℤ) Stop) (x : Line ℤ) → placed end r ≡ Ok x → r ≡ Ok x
+placed_ok end (Ok y) x e = cc
+placed_ok end (Err s) x e = cc
+
 -- a line that was parsed: its tokens, and that its numbers have at most ten digits
 pub parsed_line : (bs : Text) (x : Line ℤ) → parsed bs ≡ Ok x → Wide x × (tokens bs ≡ spell x)
-parsed_line bs x e = run_made (1 + length bs) start (pieces 1 bs) x [] refl e
+parsed_line bs x e = run_made start (pieces 1 bs) x [] refl (placed_ok (1 + length bs) (run start (pieces 1 bs)) x e)
 
 -- if no number is out of range, it is a line of the grammar
 pub parsed_proper : (bs : Text) (x : Line ℤ) → parsed bs ≡ Ok x → beyond_at (pieces 1 bs) ≡ None → Proper x
@@ -47,7 +52,7 @@ complete : (bs : Text) (x : Line ℤ) → Spells bs x → reading bs ≡ Ok x
 complete bs x s =
     cond-false (ltb 80 (length bs)) (Err (flaw TooLong 81)) (clean bs (foreign_at 1 bs)) (le-ltb 80 (length bs) s.0.0)
     ∙ ap (clean bs) s.0.1
-    ∙ ap (spelt bs) (run_walk (1 + length bs) start (pieces 1 bs) x (subst (λ (ts : List Text). walk start ts ≡ Some (done x)) (sym s.2) (spell_walk x (proper_wide x s.1))))
+    ∙ ap (λ r. spelt bs (placed (1 + length bs) r)) (run_walk start (pieces 1 bs) x (subst (λ (ts : List Text). walk start ts ≡ Some (done x)) (sym s.2) (spell_walk x (proper_wide x s.1))))
     ∙ ap (ranged x) (within_none (pieces 1 bs) (subst Within (sym s.2) (proper_within x s.1)))
 
 pub reads_exactly : (bs : Text) → Reads bs (reading bs)

@@ -3,6 +3,7 @@ use Rattle.std.proofs.Common.{◌≡◌, ℕ, ◌^◌, ◌≤◌, true, false, c
 use Rattle.std.specs.Char.{is_ascii_lowercase}
 use Rattle.std.specs.Fmt.{signed_decimal}
 use Rattle.std.proofs.lemmas.Bool.{cases_Bool, and_parts, leb-true, ltb-true, false≢true}
+use Rattle.std.specs.Option.{option_and_then, option_map}
 use Rattle.numeral.specs.Numbers.{Short, fits, narrow_of, held, shaped, int_of, narrowed}
 use Rattle.numeral.proofs.Numerals.{spelling, wide_back}
 use Rattle.line.specs.declared.label.Label.{Label}
@@ -19,7 +20,7 @@ use Rattle.line.specs.declared.variable.Variable.{Variable}
 use Rattle.line.specs.Grammar.{spell, spell_action, spell_statement, spell_operand, spell_operator, Wide, Proper, Fits, EachOperand, EachAction, EachStatement}
 use Rattle.line.specs.Names.{only_letters}
 use Rattle.line.specs.Pieces.{Piece}
-use Rattle.line.specs.Ranges.{past_range, is_beyond, beyond_at, keep, narrowed_operand, narrowed_action, narrowed_statement, narrowed_line}
+use Rattle.line.specs.Ranges.{past_range, is_beyond, beyond_at, narrowed_operand, narrowed_action, narrowed_statement, narrowed_line}
 use Rattle.line.specs.Readings.{texts}
 use Rattle.line.specs.Words.{Text, label_text, variable_text}
 use Rattle.line.specs.Tokens.{name_of, low_first}
@@ -149,20 +150,20 @@ proper_wide x p = statement_wide x.statement p
 -- a line with numbers in range is narrowed to itself
 operand_kept : (o : Operand ℤ) → EachOperand Fits o → narrowed_operand o ≡ Some o
 operand_kept (Var v) p = refl
-operand_kept (Num z) p = ap (λ b. keep (cond b (Some z) None) (λ n. Some (Num n))) p
+operand_kept (Num z) p = ap (λ b. option_map Num (cond b (Some z) None)) p
 
 action_kept : (a : Action ℤ) → EachAction Fits a → narrowed_action a ≡ Some a
 action_kept Pass p = refl
-action_kept (Set v o) p = ap (λ y. keep y (λ x. Some (Set v x))) (operand_kept o p)
+action_kept (Set v o) p = ap (option_map (λ x. Set v x)) (operand_kept o p)
 action_kept (Compute v a c b) p =
-    ap (λ y. keep y (λ x. keep (narrowed_operand b) (λ z. Some (Compute v x c z)))) (operand_kept a p.0) ∙ ap (λ y. keep y (λ z. Some (Compute v a c z))) (operand_kept b p.1)
+    ap (option_and_then (λ x. option_map (λ y. Compute v x c y) (narrowed_operand b))) (operand_kept a p.0) ∙ ap (option_map (λ y. Compute v a c y)) (operand_kept b p.1)
 action_kept (Get v) p = refl
-action_kept (Put o) p = ap (λ y. keep y (λ x. Some (Put x))) (operand_kept o p)
+action_kept (Put o) p = ap (option_map Put) (operand_kept o p)
 
 statement_kept : (s : Statement ℤ) → EachStatement Fits s → narrowed_statement s ≡ Some s
-statement_kept (Then a n) p = ap (λ y. keep y (λ x. Some (Then x n))) (action_kept a p)
-statement_kept (If o a b) p = ap (λ y. keep y (λ x. Some (If x a b))) (operand_kept o p)
+statement_kept (Then a n) p = ap (option_map (λ x. Then x n)) (action_kept a p)
+statement_kept (If o a b) p = ap (option_map (λ x. If x a b)) (operand_kept o p)
 statement_kept Halt p = refl
 
 pub line_kept : (x : Line ℤ) → Proper x → narrowed_line x ≡ Some x
-line_kept x p = ap (λ y. keep y (λ s. Some (record { label = x.label; statement = s }))) (statement_kept x.statement p)
+line_kept x p = ap (option_map (λ s. record { label = x.label; statement = s })) (statement_kept x.statement p)

@@ -1,7 +1,6 @@
 mod Answered
 mod Bounds
 mod Cuts
-mod Inks
 mod Longest
 mod Made
 mod Pressed

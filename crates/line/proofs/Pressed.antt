@@ -1,5 +1,5 @@
 -- The tokens of a printed line are those that spell it, and none of its bytes is foreign. Assumes nothing.
-use Rattle.std.proofs.Common.{◌≡◌, ℕ, suc, ◌+◌, ◌<◌, ◌≤◌, Bool, true, false, ◌&&◌, leb, List, [], ◌∷◌, ◌++◌, length, take, drop, ℤ, None, codes, sym, refl, ap, ◌∙◌, arith, length-append}
+use Rattle.std.proofs.Common.{◌≡◌, ℕ, ◌+◌, ◌<◌, ◌≤◌, Bool, true, false, ◌&&◌, leb, List, [], ◌∷◌, ◌++◌, length, take, drop, ℤ, None, codes, sym, refl, ap, ◌∙◌, arith, length-append}
 use Rattle.std.specs.Char.{is_ascii_lowercase, is_ascii_digit}
 use Rattle.std.specs.Fmt.{signed_decimal}
 use Rattle.std.specs.Str.{all_ascii_digits}
@@ -51,7 +51,7 @@ Solids (w ∷ ws) = Solid w × Solids ws
 
 dark_run : (w r : Text) → Every Dark w → inked r ≡ 0 → inked (w ++ r) ≡ length w
 dark_run [] r d e = e
-dark_run (b ∷ bs) r d e = rw d.0.0 (ap suc (dark_run bs r d.1 e))
+dark_run (b ∷ bs) r d e = rw d.0.0 (omega (arith, dark_run bs r d.1 e))
 
 dark_first : (w r : Text) → Solid w → blanks (w ++ r) ≡ 0
 dark_first [] r d = absurd (omega (arith, d.0))

@@ -1,9 +1,12 @@
 -- Where a run stops: every state leads on to some line, so a token that it refuses is one that no line has there. Assumes nothing.
-use Rattle.std.proofs.Common.{◌≡◌, ℕ, ◌+◌, ◌⊎◌, List, [], ◌∷◌, ◌++◌, length, ℤ, Some, None, Ok, Err, codes, Option, sym, refl, ap, ◌∙◌, subst, inl, inr, ⊎_elim, append_assoc, append-nil, arith}
+use Rattle.std.proofs.Common.{◌≡◌, ℕ, ◌+◌, ◌⊎◌, List, [], ◌∷◌, ◌++◌, length, ℤ, Some, None, Ok, Err, codes, Option, Result, sym, refl, ap, ◌∙◌, subst, inl, inr, ⊎_elim, append_assoc, append-nil, arith}
 use Rattle.numeral.specs.Numbers.{Short}
 use Rattle.line.specs.declared.label.Label.{Label}
+use Rattle.line.specs.declared.parse.Stop.{Stop}
+use Rattle.line.specs.declared.parse.Stop.TheVariants.{At, TooEarly}
 use Rattle.line.specs.declared.syntax.Action.TheVariants.{Set, Compute, Get, Put}
 use Rattle.line.specs.declared.syntax.Operand.TheVariants.{Var}
+use Rattle.line.specs.declared.syntax.Line.{Line}
 use Rattle.line.specs.declared.syntax.Statement.{Statement}
 use Rattle.line.specs.declared.syntax.Statement.TheVariants.{Then, If, Halt}
 use Rattle.line.specs.declared.variable.Variable.{Variable}
@@ -11,7 +14,7 @@ use Rattle.line.specs.Grammar.{spell, spell_action, spell_operand, spell_operato
 use Rattle.line.specs.Names.{padded, kept}
 use Rattle.line.specs.Pieces.{Piece, pieces}
 use Rattle.line.specs.Readings.{texts, Begins, AtToken, AtEnd}
-use Rattle.line.specs.States.{State, start, named, setting, sourcing, held, joining, putting, testing, acted, tested, leading, branching, forking, done, line, step, closed, run, follow, parsed}
+use Rattle.line.specs.States.{State, start, named, setting, sourcing, held, joining, putting, testing, acted, tested, leading, branching, forking, done, line, step, closed, run, follow, column_of, placed, parsed}
 use Rattle.line.specs.Words.{Text, label_text, variable_text}
 use Rattle.line.proofs.Made.{Made, step_made}
 use Rattle.line.proofs.Walks.{on, walk, none_some, spell_walk}
@@ -59,81 +62,81 @@ walk_append s u (t ∷ a) b e =
     [ None ↦ λ q. absurd (none_some u q) | Some v ↦ λ q. walk_append v u a b q ]) e
 
 -- a run stops at a token that the state before it refuses, or at the end
-pub record Token (s : State) (ts : List Text) (ps : List Piece) (c : ℕ) : Type 0 where
+pub record Token (s : State) (ts : List Text) (ps : List Piece) (c : Stop) : Type 0 where
   pub front : List Piece
   pub bad : Piece
   pub back : List Piece
   pub split : ps ≡ front ++ bad ∷ back
-  pub column_is : c ≡ bad.column
+  pub stops_at : c ≡ At bad.column
   pub at : State
   pub made : Made at (ts ++ texts front)
   pub walked : walk s (texts front) ≡ Some at
   pub refused : step at bad.text ≡ None
 
-pub record End (end : ℕ) (s : State) (ts : List Text) (ps : List Piece) (c : ℕ) : Type 0 where
-  pub column_is : c ≡ end
+pub record End (s : State) (ts : List Text) (ps : List Piece) (c : Stop) : Type 0 where
+  pub too_early : c ≡ TooEarly
   pub at : State
   pub made : Made at (ts ++ texts ps)
   pub walked : walk s (texts ps) ≡ Some at
-  pub open_is : closed end at ≡ Err c
+  pub open_is : closed at ≡ Err c
 
-closed_err : (end : ℕ) (s : State) (c : ℕ) → closed end s ≡ Err c → c ≡ end
-closed_err end (done y) c e = let z : ◌≡◌ {A = ℕ} 0 1 = cc in absurd (omega arith)
-closed_err end start c e = cc
-closed_err end (named l) c e = cc
-closed_err end (setting l v) c e = cc
-closed_err end (sourcing l v) c e = cc
-closed_err end (held l v o) c e = cc
-closed_err end (joining l v o p) c e = cc
-closed_err end (putting l) c e = cc
-closed_err end (testing l) c e = cc
-closed_err end (acted l a) c e = cc
-closed_err end (tested l o) c e = cc
-closed_err end (leading l a) c e = cc
-closed_err end (branching l o) c e = cc
-closed_err end (forking l o a) c e = cc
+closed_err : (s : State) (c : Stop) → closed s ≡ Err c → c ≡ TooEarly
+closed_err (done y) c e = let z : ◌≡◌ {A = ℕ} 0 1 = cc in absurd (omega arith)
+closed_err start c e = cc
+closed_err (named l) c e = cc
+closed_err (setting l v) c e = cc
+closed_err (sourcing l v) c e = cc
+closed_err (held l v o) c e = cc
+closed_err (joining l v o p) c e = cc
+closed_err (putting l) c e = cc
+closed_err (testing l) c e = cc
+closed_err (acted l a) c e = cc
+closed_err (tested l o) c e = cc
+closed_err (leading l a) c e = cc
+closed_err (branching l o) c e = cc
+closed_err (forking l o a) c e = cc
 
-more_token : (s u : State) (p : Piece) (ps : List Piece) (ts : List Text) (c : ℕ) → step s p.text ≡ Some u → Token u (ts ++ p.text ∷ []) ps c → Token s ts (p ∷ ps) c
+more_token : (s u : State) (p : Piece) (ps : List Piece) (ts : List Text) (c : Stop) → step s p.text ≡ Some u → Token u (ts ++ p.text ∷ []) ps c → Token s ts (p ∷ ps) c
 more_token s u p ps ts c e k =
     record {
       front = p ∷ k.front;
       bad = k.bad;
       back = k.back;
       split = ap (λ (x : List Piece). p ∷ x) k.split;
-      column_is = k.column_is;
+      stops_at = k.stops_at;
       at = k.at;
       made = subst (λ (l : List Text). Made k.at l) (append_assoc ts (p.text ∷ []) (texts k.front)) k.made;
       walked = ap (λ (o : Option State). on o (λ x. walk x (texts k.front))) e ∙ k.walked;
       refused = k.refused;
     }
 
-more_end : (end : ℕ) (s u : State) (p : Piece) (ps : List Piece) (ts : List Text) (c : ℕ) → step s p.text ≡ Some u → End end u (ts ++ p.text ∷ []) ps c → End end s ts (p ∷ ps) c
-more_end end s u p ps ts c e k =
+more_end : (s u : State) (p : Piece) (ps : List Piece) (ts : List Text) (c : Stop) → step s p.text ≡ Some u → End u (ts ++ p.text ∷ []) ps c → End s ts (p ∷ ps) c
+more_end s u p ps ts c e k =
     record {
-      column_is = k.column_is;
+      too_early = k.too_early;
       at = k.at;
       made = subst (λ (l : List Text). Made k.at l) (append_assoc ts (p.text ∷ []) (texts ps)) k.made;
       walked = ap (λ (o : Option State). on o (λ x. walk x (texts ps))) e ∙ k.walked;
       open_is = k.open_is;
     }
 
-pub stops : (end : ℕ) (s : State) (ps : List Piece) (c : ℕ) (ts : List Text) → Made s ts → run end s ps ≡ Err c → Token s ts ps c ⊎ End end s ts ps c
-stops end s [] c ts m e =
-    inr (record { column_is = closed_err end s c e; at = s; made = subst (λ (l : List Text). Made s l) (sym (append-nil ts)) m; walked = refl; open_is = e })
-stops end s (p ∷ ps) c ts m e =
-    (elim (step s p.text) as (λ o. step s p.text ≡ o → follow p.column o (λ u. run end u ps) ≡ Err c → Token s ts (p ∷ ps) c ⊎ End end s ts (p ∷ ps) c) [
-      | None ↦ λ q h. inl (record { front = []; bad = p; back = ps; split = refl; column_is = cc; at = s; made = subst (λ (l : List Text). Made s l) (sym (append-nil ts)) m; walked = refl; refused = q })
-      | Some u ↦ λ q h. ⊎_elim (λ k. inl (more_token s u p ps ts c q k)) (λ k. inr (more_end end s u p ps ts c q k)) (stops end u ps c (ts ++ p.text ∷ []) (step_made s u p.text ts m q) h)
+pub stops : (s : State) (ps : List Piece) (c : Stop) (ts : List Text) → Made s ts → run s ps ≡ Err c → Token s ts ps c ⊎ End s ts ps c
+stops s [] c ts m e =
+    inr (record { too_early = closed_err s c e; at = s; made = subst (λ (l : List Text). Made s l) (sym (append-nil ts)) m; walked = refl; open_is = e })
+stops s (p ∷ ps) c ts m e =
+    (elim (step s p.text) as (λ o. step s p.text ≡ o → follow p.column o (λ u. run u ps) ≡ Err c → Token s ts (p ∷ ps) c ⊎ End s ts (p ∷ ps) c) [
+      | None ↦ λ q h. inl (record { front = []; bad = p; back = ps; split = refl; stops_at = cc; at = s; made = subst (λ (l : List Text). Made s l) (sym (append-nil ts)) m; walked = refl; refused = q })
+      | Some u ↦ λ q h. ⊎_elim (λ k. inl (more_token s u p ps ts c q k)) (λ k. inr (more_end s u p ps ts c q k)) (stops u ps c (ts ++ p.text ∷ []) (step_made s u p.text ts m q) h)
     ]) refl e
 
-pub at_token : (ps : List Piece) (c : ℕ) → Token start [] ps c → AtToken ps c
-at_token ps c k =
+pub at_token : (end : ℕ) (ps : List Piece) (c : Stop) → Token start [] ps c → AtToken ps (column_of end c)
+at_token end ps c k =
     record {
       front = k.front;
       bad = k.bad;
       back = k.back;
       split = k.split;
-      column_is = k.column_is;
+      column_is = ap (column_of end) k.stops_at;
       viable = viable k.at (texts k.front) k.made;
       stuck = λ b.
           let whole = spell_walk b.whole b.wide in
@@ -142,18 +145,26 @@ at_token ps c k =
           none_some (done b.whole) (sym (ahead ∙ ap (λ (o : Option State). on o (λ x. walk x b.more)) k.refused) ∙ whole);
     }
 
-pub at_end : (end : ℕ) (ps : List Piece) (c : ℕ) → End end start [] ps c → AtEnd end ps c
+pub at_end : (end : ℕ) (ps : List Piece) (c : Stop) → End start [] ps c → AtEnd end ps (column_of end c)
 at_end end ps c k =
     record {
-      column_is = k.column_is;
+      column_is = ap (column_of end) k.too_early;
       viable = viable k.at (texts ps) k.made;
       short = λ x p e.
           let whole : Some k.at ≡ Some (done x) = sym k.walked ∙ ap (walk start) (sym e) ∙ spell_walk x p in
           let same : k.at ≡ done x = cc in
-          let clash : Err c ≡ Ok x = sym k.open_is ∙ ap (closed end) same in
+          let clash : Err c ≡ Ok x = sym k.open_is ∙ ap closed same in
           let z : ◌≡◌ {A = ℕ} 0 1 = cc in omega arith;
     }
 
 -- what stops a reading
-pub stopped : (bs : Text) (c : ℕ) → parsed bs ≡ Err c → AtToken (pieces 1 bs) c ⊎ AtEnd (1 + length bs) (pieces 1 bs) c
-stopped bs c e = ⊎_elim (λ k. inl (at_token (pieces 1 bs) c k)) (λ k. inr (at_end (1 + length bs) (pieces 1 bs) c k)) (stops (1 + length bs) start (pieces 1 bs) c [] refl e)
+module _ (bs : Text) (c : ℕ) where
+  stopped_by : (r : Result (Line ℤ) Stop) → run start (pieces 1 bs) ≡ r → placed (1 + length bs) r ≡ Err c → AtToken (pieces 1 bs) c ⊎ AtEnd (1 + length bs) (pieces 1 bs) c
+  stopped_by (Ok x) e q = cc
+  stopped_by (Err s) e q =
+      let same : column_of (1 + length bs) s ≡ c = cc in
+      subst (λ k. AtToken (pieces 1 bs) k ⊎ AtEnd (1 + length bs) (pieces 1 bs) k) same
+      (⊎_elim (λ k. inl (at_token (1 + length bs) (pieces 1 bs) s k)) (λ k. inr (at_end (1 + length bs) (pieces 1 bs) s k)) (stops start (pieces 1 bs) s [] refl e))
+
+  pub stopped : parsed bs ≡ Err c → AtToken (pieces 1 bs) c ⊎ AtEnd (1 + length bs) (pieces 1 bs) c
+  stopped = stopped_by (run start (pieces 1 bs)) refl

@@ -1,5 +1,6 @@
 -- The states that a list of tokens leads through, and the tokens of a line among them. Assumes nothing.
 use Rattle.std.proofs.Common.{◌≡◌, ℕ, List, [], ◌∷◌, ◌++◌, ℤ, Some, None, Ok, codes, Option, refl, ap, ◌∙◌, arith}
+use Rattle.std.specs.Option.{option_map}
 use Rattle.numeral.specs.Numbers.{Short}
 use Rattle.line.specs.declared.label.Label.{Label}
 use Rattle.line.specs.declared.syntax.Action.{Action}
@@ -12,10 +13,10 @@ use Rattle.line.specs.declared.variable.Variable.{Variable}
 use Rattle.line.specs.Grammar.{spell, spell_action, spell_statement, spell_operand, spell_operator, Wide, EachOperand, EachAction, EachStatement}
 use Rattle.line.specs.Pieces.{Piece}
 use Rattle.line.specs.Readings.{texts}
-use Rattle.line.specs.States.{State, start, named, setting, sourcing, held, joining, putting, testing, acted, tested, leading, branching, forking, done, line, onto, begun, either_op, step, closed, run, follow}
-use Rattle.line.specs.Words.{Text, exactly, label_text, variable_text, variable_of, label_of, operand_spelt, word_of}
+use Rattle.line.specs.States.{State, start, named, setting, sourcing, held, joining, putting, testing, acted, tested, leading, branching, forking, done, line, begun, either_op, step, closed, run, follow}
+use Rattle.line.specs.Words.{Text, exactly, label_text, variable_text, variable_of, label_of, operand_spelt, keyword_of}
 use Rattle.line.proofs.Runs.{sourced_other}
-use Rattle.line.specs.Tokens.{label_back, operand_back, operand_word, variable_back, variable_word, op_back}
+use Rattle.line.specs.Tokens.{label_back, operand_back, operand_keyword, variable_back, variable_keyword, op_back}
 
 abbrev pub on : Option State → (State → Option State) → Option State
 on None f = None
@@ -32,17 +33,17 @@ pub none_some : {A : Type 0} (a : A) → None ≡ Some a → ⊥
 none_some a e = let z : ◌≡◌ {A = ℕ} 0 1 = cc in omega arith
 
 -- a walk to a line is a run to it
-pub run_walk : (end : ℕ) (s : State) (ps : List Piece) (x : Line ℤ) → walk s (texts ps) ≡ Some (done x) → run end s ps ≡ Ok x
-run_walk end s [] x e = let same : s ≡ done x = cc in ap (closed end) same
-run_walk end s (p ∷ ps) x e =
-    (elim (step s p.text) as (λ o. on o (λ u. walk u (texts ps)) ≡ Some (done x) → follow p.column o (λ u. run end u ps) ≡ Ok x)
-    [ None ↦ λ q. absurd (none_some (done x) q) | Some u ↦ λ q. run_walk end u ps x q ]) e
+pub run_walk : (s : State) (ps : List Piece) (x : Line ℤ) → walk s (texts ps) ≡ Some (done x) → run s ps ≡ Ok x
+run_walk s [] x e = let same : s ≡ done x = cc in ap closed same
+run_walk s (p ∷ ps) x e =
+    (elim (step s p.text) as (λ o. on o (λ u. walk u (texts ps)) ≡ Some (done x) → follow p.column o (λ u. run u ps) ≡ Ok x)
+    [ None ↦ λ q. absurd (none_some (done x) q) | Some u ↦ λ q. run_walk u ps x q ]) e
 
-label_step : (k : Label → State) (a : Label) → onto (label_of (label_text a)) k ≡ Some (k a)
-label_step k a = ap (λ o. onto o k) (label_back a)
+label_step : (k : Label → State) (a : Label) → option_map k (label_of (label_text a)) ≡ Some (k a)
+label_step k a = ap (λ o. option_map k o) (label_back a)
 
-operand_step : (k : Operand ℤ → State) (o : Operand ℤ) → EachOperand Short o → onto (operand_spelt (spell_operand o)) k ≡ Some (k o)
-operand_step k o p = ap (λ y. onto y k) (operand_back o p)
+operand_step : (k : Operand ℤ → State) (o : Operand ℤ) → EachOperand Short o → option_map k (operand_spelt (spell_operand o)) ≡ Some (k o)
+operand_step k o p = ap (λ y. option_map k y) (operand_back o p)
 
 -- after a statement with one successor
 after_action : (l : Label) (a : Action ℤ) (n : Label) → walk (leading l a) (label_text n ∷ []) ≡ Some (done (line l (Then a n)))
@@ -52,7 +53,7 @@ arrow_action : (l : Label) (a : Action ℤ) (n : Label) → walk (acted l a) (co
 arrow_action l a n = to (acted l a) (leading l a) (codes "->") (label_text n ∷ []) _ refl (after_action l a n)
 
 setting_step : (l : Label) (v : Variable) → step (named l) (variable_text v) ≡ Some (setting l v)
-setting_step l v = ap (λ w. begun l w (variable_of (variable_text v))) (variable_word v) ∙ ap (λ y. onto y (setting l)) (variable_back v)
+setting_step l v = ap (λ w. begun l w (variable_of (variable_text v))) (variable_keyword v) ∙ ap (λ y. option_map (setting l) y) (variable_back v)
 
 -- v =
 source_walk : (l : Label) (v : Variable) (ts : List Text) (r : Option State) → walk (sourcing l v) ts ≡ r → walk (named l) (variable_text v ∷ codes "=" ∷ ts) ≡ r
@@ -65,7 +66,7 @@ held_walk : (l : Label) (v : Variable) (o : Operand ℤ) (ts : List Text) (r : O
 held_walk l v o ts r p h =
     source_walk l v (spell_operand o ∷ ts) r
     (to (sourcing l v) (held l v o) (spell_operand o) ts r
-    (sourced_other l v (word_of (spell_operand o)) (operand_spelt (spell_operand o)) (operand_word o p) ∙ operand_step (held l v) o p) h)
+    (sourced_other l v (keyword_of (spell_operand o)) (operand_spelt (spell_operand o)) (operand_keyword o p) ∙ operand_step (held l v) o p) h)
 
 action_walk : (l : Label) (a : Action ℤ) (n : Label) → EachAction Short a → walk (named l) (spell_action a ++ codes "->" ∷ label_text n ∷ []) ≡ Some (done (line l (Then a n)))
 action_walk l Pass n p = to (named l) (acted l Pass) (codes "pass") (codes "->" ∷ label_text n ∷ []) _ refl (arrow_action l Pass n)
@@ -74,7 +75,7 @@ action_walk l (Set v o) n p =
     (to (held l v o) (leading l (Set v o)) (codes "->") (label_text n ∷ []) _ refl (after_action l (Set v o) n))
 action_walk l (Compute v a c b) n p =
     held_walk l v a (spell_operator c ∷ spell_operand b ∷ codes "->" ∷ label_text n ∷ []) _ p.0
-    (to (held l v a) (joining l v a c) (spell_operator c) (spell_operand b ∷ codes "->" ∷ label_text n ∷ []) _ (ap (λ y. either_op y (joining l v a) (onto (exactly (codes "->") (spell_operator c)) (λ u. leading l (Set v a)))) (op_back c))
+    (to (held l v a) (joining l v a c) (spell_operator c) (spell_operand b ∷ codes "->" ∷ label_text n ∷ []) _ (ap (λ y. either_op y (joining l v a) (option_map (λ u. leading l (Set v a)) (exactly (codes "->") (spell_operator c)))) (op_back c))
     (to (joining l v a c) (acted l (Compute v a c b)) (spell_operand b) (codes "->" ∷ label_text n ∷ []) _ (operand_step (λ y. acted l (Compute v a c y)) b p.1) (arrow_action l (Compute v a c b) n)))
 action_walk l (Get v) n p =
     source_walk l v (codes "get" ∷ codes "->" ∷ label_text n ∷ []) _

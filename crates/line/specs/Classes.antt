@@ -1,6 +1,7 @@
 -- The class of a byte: the rule. Assumes nothing.
-use Rattle.std.specs.Prelude.{ℕ, ◌+◌, Bool, true, false, cond, List, [], ◌∷◌, Some, None, Option, ◌==◌}
+use Rattle.std.specs.Prelude.{ℕ, Bool, true, false, cond, List, Option, ◌==◌}
 use Rattle.std.specs.Char.{is_ascii_lowercase, is_ascii_digit}
+use Rattle.std.specs.List.{position_from}
 use Rattle.line.specs.declared.class.Class.{Class}
 use Rattle.line.specs.declared.class.Class.TheVariants.{Space, Letter, Digit, Sign, Foreign}
 
@@ -26,5 +27,4 @@ is_foreign Sign = false
 
 -- the column of the first foreign byte of a list whose first byte stands in column c
 abbrev pub foreign_at : ℕ → List ℕ → Option ℕ
-foreign_at c [] = None
-foreign_at c (b ∷ bs) = cond (is_foreign (class_by_rule b)) (Some c) (foreign_at (c + 1) bs)
+foreign_at c bs = position_from (λ b. is_foreign (class_by_rule b)) c bs

@@ -1,10 +1,10 @@
 pub mod Classes
+pub mod Cursors
 pub mod Grammar
 pub mod Names
 pub mod Pieces
 pub mod Ranges
 pub mod Readings
-pub mod Sheets
 pub mod States
 pub mod Words
 pub mod Tokens

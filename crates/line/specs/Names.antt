@@ -2,14 +2,14 @@
 use Rattle.std.specs.Prelude.{◌≡◌, ℕ, Bool, true, ◌&&◌, List, [], ◌∷◌, ◌++◌, length, take, drop, ◌==◌, nat_le, refl}
 use Rattle.std.proofs.Common.{sym, subst}
 use Rattle.std.specs.Char.{is_ascii_lowercase}
+use Rattle.std.specs.List.{list_all}
 use Rattle.std.specs.Str.{bytes_eq}
 use Rattle.std.proofs.lemmas.Slice.Eq.{bytes_eq-Decides}
 use Rattle.std.proofs.lemmas.List.{take_at}
 use Rattle.std.proofs.lemmas.Bool.{and_from, eq-eqb}
 
 abbrev pub only_letters : List ℕ → Bool
-only_letters [] = true
-only_letters (b ∷ bs) = is_ascii_lowercase b && only_letters bs
+only_letters t = list_all is_ascii_lowercase t
 
 -- 1 to 8 letters
 abbrev pub is_word : List ℕ → Bool

@@ -95,7 +95,7 @@ pub record Reads (bs : Text) (r : Result (Line ℤ) Flaw) : Type 0 where
   pub answers : Answers bs r
   pub complete : (x : Line ℤ) → Spells bs x → r ≡ Ok x
 
--- a flaw of a text that is not clean, and then the answer to it; or none, and the text is clean
-abbrev pub Sorts : Text → Option Flaw → Type 0
-Sorts bs (Some f) = (Err f ≡ reading bs) × Reads bs (Err f)
-Sorts bs None = Clean bs
+-- a text is clean, or its flaw is the answer to it
+abbrev pub Sorts : Text → Result (Unit {0}) Flaw → Type 0
+Sorts bs (Ok u) = Clean bs
+Sorts bs (Err f) = (Err f ≡ reading bs) × Reads bs (Err f)

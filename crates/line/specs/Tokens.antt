@@ -18,32 +18,32 @@ use Rattle.line.specs.declared.syntax.Operator.{Operator}
 use Rattle.line.specs.declared.syntax.Operator.TheVariants.{Add, Sub, Mul, Div, Rem, Less, Equal, And}
 use Rattle.line.specs.declared.syntax.Operand.{Operand}
 use Rattle.line.specs.declared.syntax.Operand.TheVariants.{Var, Num}
-use Rattle.line.specs.declared.word.Word.{Word}
-use Rattle.line.specs.declared.word.Word.TheVariants.{Pass, Halt, If, Get, Put, Other}
+use Rattle.line.specs.declared.word.Keyword.{Keyword}
+use Rattle.line.specs.declared.word.Keyword.TheVariants.{Pass, Halt, If, Get, Put}
 use Rattle.line.specs.Grammar.{spell_operand, spell_operator, EachOperand}
 use Rattle.line.specs.Names.{only_letters, is_word, is_name, padded, zeros, kept}
-use Rattle.line.specs.Words.{Text, exactly, word_of, sign_of, double_of, operator_spelt, label_text, same_label, label_by, label_of, variable_text, variable_by, variable_of, or_number, operand_spelt}
+use Rattle.line.specs.Words.{Text, exactly, keyword_of, sign_of, operator_spelt, label_text, same_label, label_by, label_of, variable_text, variable_by, variable_of, or_number, operand_spelt}
 use Rattle.line.specs.Spelt.{past}
 
 is_text : (t w : Text) → bytes_eq t w ≡ true → t ≡ w
 is_text t w e = (bytes_eq-Decides t w).0 e
 
 -- keywords
-abbrev pub WordIs : Text → Word → Type 0
-WordIs t Pass = t ≡ codes "pass"
-WordIs t Halt = t ≡ codes "halt"
-WordIs t If = t ≡ codes "if"
-WordIs t Get = t ≡ codes "get"
-WordIs t Put = t ≡ codes "put"
-WordIs t Other = Unit {0}
+abbrev pub KeywordIs : Text → Option Keyword → Type 0
+KeywordIs t (Some Pass) = t ≡ codes "pass"
+KeywordIs t (Some Halt) = t ≡ codes "halt"
+KeywordIs t (Some If) = t ≡ codes "if"
+KeywordIs t (Some Get) = t ≡ codes "get"
+KeywordIs t (Some Put) = t ≡ codes "put"
+KeywordIs t None = Unit {0}
 
-pub word_is : (t : Text) → WordIs t (word_of t)
-word_is t =
-    cond_both (bytes_eq t (codes "pass")) Pass _ (WordIs t) (is_text t _) (λ a.
-    cond_both (bytes_eq t (codes "halt")) Halt _ (WordIs t) (is_text t _) (λ b.
-    cond_both (bytes_eq t (codes "if")) If _ (WordIs t) (is_text t _) (λ c.
-    cond_both (bytes_eq t (codes "get")) Get _ (WordIs t) (is_text t _) (λ d.
-    cond_both (bytes_eq t (codes "put")) Put Other (WordIs t) (is_text t _) (λ e. tt)))))
+pub keyword_is : (t : Text) → KeywordIs t (keyword_of t)
+keyword_is t =
+    cond_both (bytes_eq t (codes "pass")) (Some Pass) _ (KeywordIs t) (is_text t _) (λ a.
+    cond_both (bytes_eq t (codes "halt")) (Some Halt) _ (KeywordIs t) (is_text t _) (λ b.
+    cond_both (bytes_eq t (codes "if")) (Some If) _ (KeywordIs t) (is_text t _) (λ c.
+    cond_both (bytes_eq t (codes "get")) (Some Get) _ (KeywordIs t) (is_text t _) (λ d.
+    cond_both (bytes_eq t (codes "put")) (Some Put) None (KeywordIs t) (is_text t _) (λ e. tt)))))
 
 -- a token that is spelt just so
 pub exactly_is : (w t : Text) (x : Unit {0}) → exactly w t ≡ Some x → t ≡ w
@@ -84,12 +84,6 @@ op_back Rem = refl
 op_back Less = refl
 op_back Equal = refl
 op_back And = refl
-
--- a token of another length than one
-pub longer : (t : Text) → (length t ≢ 1) → double_of t ≡ operator_spelt t
-longer [] h = refl
-longer (c ∷ []) h = absurd (h refl)
-longer (c ∷ d ∷ t) h = refl
 
 -- labels: what is kept of one determines it
 pub label_ext : (a b : Label) → a.letters ≡ b.letters → a.size ≡ b.size → a ≡ b
@@ -241,17 +235,17 @@ operand_back (Num z) p =
     ∙ ap (λ x. or_number None x) (wide_back z p)
 
 -- a variable is no keyword
-pub variable_word : (v : Variable) → word_of (variable_text v) ≡ Other
-variable_word v =
+pub variable_keyword : (v : Variable) → keyword_of (variable_text v) ≡ None
+variable_keyword v =
     let long : (w : Text) → (length w ≢ 1) → variable_text v ≡ w → ⊥ = λ w h q. h (sym (ap length q)) in
     let t : Text = variable_text v in
-    sym (past t (codes "pass") Pass _ _ (long _ (λ q. omega arith)) (past t (codes "halt") Halt _ _ (long _ (λ q. omega arith)) (past t (codes "if") If _ _ (long _ (λ q. omega arith))
-    (past t (codes "get") Get _ _ (long _ (λ q. omega arith)) (past t (codes "put") Put Other _ (long _ (λ q. omega arith)) refl)))))
+    sym (past t (codes "pass") (Some Pass) _ _ (long _ (λ q. omega arith)) (past t (codes "halt") (Some Halt) _ _ (long _ (λ q. omega arith)) (past t (codes "if") (Some If) _ _ (long _ (λ q. omega arith))
+    (past t (codes "get") (Some Get) _ _ (long _ (λ q. omega arith)) (past t (codes "put") (Some Put) None _ (long _ (λ q. omega arith)) refl)))))
 
 -- nor is a spelt operand
 operand_not_get : (o : Operand ℤ) → EachOperand Short o → spell_operand o ≢ codes "get"
 operand_not_get (Var v) p q = let f : ◌≡◌ {A = ℕ} 1 3 = ap length q in omega arith
 operand_not_get (Num z) p q = let f : slice_index_or (signed_decimal z) 0 0 ≡ 103 = ap (λ (x : Text). slice_index x 0) q in omega (arith, low_first (signed_decimal z) (reads z p).spelt)
 
-pub operand_word : (o : Operand ℤ) → EachOperand Short o → word_of (spell_operand o) ≢ Get
-operand_word o p e = operand_not_get o p (subst (WordIs (spell_operand o)) e (word_is (spell_operand o)))
+pub operand_keyword : (o : Operand ℤ) → EachOperand Short o → keyword_of (spell_operand o) ≢ Some Get
+operand_keyword o p e = operand_not_get o p (subst (KeywordIs (spell_operand o)) e (keyword_is (spell_operand o)))

@@ -9,8 +9,8 @@ use Rattle.line.specs.declared.syntax.Operator.{Operator}
 use Rattle.line.specs.declared.syntax.Operator.TheVariants.{Add, Sub, Mul, Div, Rem, Less, Equal, And}
 use Rattle.line.specs.declared.syntax.Operand.{Operand}
 use Rattle.line.specs.declared.syntax.Operand.TheVariants.{Var, Num}
-use Rattle.line.specs.declared.word.Word.{Word}
-use Rattle.line.specs.declared.word.Word.TheVariants.{Pass, Halt, If, Get, Put, Other}
+use Rattle.line.specs.declared.word.Keyword.{Keyword}
+use Rattle.line.specs.declared.word.Keyword.TheVariants.{Pass, Halt, If, Get, Put}
 use Rattle.line.specs.Names.{is_word, padded, kept}
 
 abbrev pub Text : Type 0
@@ -21,13 +21,13 @@ abbrev pub exactly : Text → Text → Option (Unit {0})
 exactly w t = cond (bytes_eq t w) (Some tt) None
 
 -- the keyword that the token is
-abbrev pub word_of : Text → Word
-word_of t =
-    cond (bytes_eq t (codes "pass")) Pass
-    (cond (bytes_eq t (codes "halt")) Halt
-    (cond (bytes_eq t (codes "if")) If
-    (cond (bytes_eq t (codes "get")) Get
-    (cond (bytes_eq t (codes "put")) Put Other))))
+abbrev pub keyword_of : Text → Option Keyword
+keyword_of t =
+    cond (bytes_eq t (codes "pass")) (Some Pass)
+    (cond (bytes_eq t (codes "halt")) (Some Halt)
+    (cond (bytes_eq t (codes "if")) (Some If)
+    (cond (bytes_eq t (codes "get")) (Some Get)
+    (cond (bytes_eq t (codes "put")) (Some Put) None))))
 
 -- the operator that one character spells: + - * / % < &
 abbrev pub sign_of : ℕ → Option Operator

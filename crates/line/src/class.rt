@@ -4,7 +4,7 @@ ghost use Rattle.std.specs.Char.{is_ascii_lowercase};
 ghost use Rattle.line.specs.Classes.{class_by_rule, foreign_at};
 ghost use Rattle.line.specs.Pieces.{is_blank};
 
-#[derive(Clone, Copy)]
+#[derive(Clone, Copy, PartialEq, Eq, Debug)]
 pub(crate) enum Class {
     Space,
     Letter,
@@ -299,29 +299,19 @@ pub(crate) fn class_of(byte: u8) -> Class
 pub(crate) fn is_space(byte: u8) -> bool
     ensures { result ≡ is_blank byte }
 {
-    match class_of(byte) {
-        Class::Space => true,
-        _ => false,
-    }
+    class_of(byte) == Class::Space
 }
 
 pub(crate) fn is_letter(byte: u8) -> bool
     ensures { result ≡ is_ascii_lowercase byte }
 {
-    match class_of(byte) {
-        Class::Letter => true,
-        _ => false,
-    }
+    class_of(byte) == Class::Letter
 }
 
 // The column of the first foreign byte.
 pub(crate) fn first_foreign(text: &[u8]) -> Option<usize>
     ensures { result ≡ foreign_at 1 text.now }
 {
-    for (i, b) in text.iter().enumerate() {
-        if let Class::Foreign = class_of(*b) {
-            return Some(i + 1);
-        }
-    }
-    None
+    let place = text.iter().position(|b| class_of(*b) == Class::Foreign)?;
+    Some(place + 1)
 }

@@ -1,6 +1,6 @@
 // The tokens of a line, one after the other: each is a part of the line, with its column.
-ghost use Rattle.std.specs.Prelude.{◌≡◌, ℕ, ◌+◌, ◌^◌, ◌<◌, ◌≤◌, true, length, is_some};
-ghost use Rattle.line.specs.Pieces.{blanks, inked, ahead, Next, Runs};
+ghost use Rattle.std.specs.Prelude.{◌≡◌, ℕ, ◌+◌, ◌^◌, ◌<◌, ◌≤◌, length};
+ghost use Rattle.line.specs.Pieces.{blanks, inked, Runs};
 
 use crate::class::is_space;
 
@@ -13,8 +13,9 @@ pub(crate) struct Token<'a> {
 // What is left of a line, and the column of its first byte.
 #[derive(Clone, Copy)]
 pub(crate) struct Cursor<'a> {
-    pub(crate) rest: &'a [u8],
-    pub(crate) column: usize,
+    rest: &'a [u8],
+    column: usize,
+    ghost ends: { column + length rest.now < 2 ^ 64 },
 }
 
 // How many spaces lead.
@@ -22,11 +23,7 @@ fn spaces(s: &[u8]) -> usize
     ensures within { result ≤ length s.now }
     ensures value { result ≡ blanks s.now }
 {
-    let mut n = 0;
-    while n < s.len() && is_space(s[n]) {
-        n += 1;
-    }
-    n
+    s.iter().take_while(|b| is_space(**b)).count()
 }
 
 // How many bytes lead that are no spaces.
@@ -34,14 +31,12 @@ fn run(s: &[u8]) -> usize
     ensures within { result ≤ length s.now }
     ensures value { result ≡ inked s.now }
 {
-    let mut n = 0;
-    while n < s.len() && !is_space(s[n]) {
-        n += 1;
-    }
-    n
+    s.iter().take_while(|b| !is_space(**b)).count()
 }
 
 impl<'a> Cursor<'a> {
+    ghost use Rattle.line.specs.Cursors.{ahead};
+
     // At the start of a line, whose tokens are its longest runs without spaces.
     pub(crate) fn new(line: &'a [u8]) -> Cursor<'a>
         ensures rest { result.rest.now ≡ line.now }
@@ -53,27 +48,31 @@ impl<'a> Cursor<'a> {
             column: 1,
         }
     }
+}
+
+impl<'a> Iterator for Cursor<'a> {
+    ghost use Rattle.std.specs.Iterator.{YieldsFirstBy, item_count};
+    ghost use Rattle.line.specs.Cursors.{ahead, piece_of};
+
+    type Item = Token<'a>;
+
+    ghost next_gives = { YieldsFirstBy piece_of ahead };
+
+    ghost remaining = { item_count ahead };
 
     // The next token, or none where only spaces are left.
-    pub(crate) fn next(&mut self) -> Option<Token<'a>>
-        requires { self.old.column + length self.old.rest.now < 2 ^ 64 }
-        ensures token { Next (ahead self.old) result (ahead self.new) }
-        ensures less { is_some result ≡ true → length self.new.rest.now < length self.old.rest.now }
-        ensures end { self.new.column + length self.new.rest.now ≡ self.old.column + length self.old.rest.now }
-    {
-        let whole = self.rest;
-        let start = spaces(whole);
-        let rest = &whole[start..];
+    fn next(&mut self) -> Option<Token<'a>> {
+        let start = spaces(self.rest);
+        let rest = &self.rest[start..];
         let column = self.column + start;
-        if rest.is_empty() {
-            self.rest = rest;
-            self.column = column;
+        let (text, after) = rest.split_at(run(rest));
+        *self = Cursor {
+            rest: after,
+            column: column + text.len(),
+        };
+        if text.is_empty() {
             return None;
         }
-        let end = run(rest);
-        let (text, after) = rest.split_at(end);
-        self.rest = after;
-        self.column = column + end;
         Some(Token { text, column })
     }
 }

@@ -8,7 +8,6 @@ mod parse;
 mod print;
 mod range;
 mod reader;
-mod sheet;
 mod syntax;
 mod variable;
 mod word;

@@ -1,16 +1,16 @@
 // The readers of a line's parts. Each takes its tokens from the cursor, and leaves there the part
-// of the line that the next reader goes on with. A refusal is the column of the first token that
-// no line has there, or one past the last byte where the tokens stop too early.
-ghost use Rattle.std.specs.Prelude.{◌≡◌, ◌^◌, ◌<◌, length};
-ghost use Rattle.line.specs.Pieces.{ahead};
+// of the line that the next reader goes on with.
+ghost use Rattle.std.specs.Prelude.{◌≡◌};
+ghost use Rattle.std.specs.Fn.{FnOnceReturnsAt};
+ghost use Rattle.line.specs.Cursors.{ahead};
 ghost use Rattle.line.specs.Words.{exactly, label_of, operand_spelt};
-ghost use Rattle.line.specs.States.{Gave, Took, Stated, Assigned, Joined, Pointed, end_of, parsed};
+ghost use Rattle.line.specs.States.{Gave, Takes, Took, Stated, Assigned, Joined, Pointed, start, run, column_of, parsed};
 
 use crate::cursor::{Cursor, Token};
 use crate::label::Label;
 use crate::syntax::{Action, Line, Operand, Statement};
 use crate::variable::Variable;
-use crate::word::{Word, is_exactly, operand_of, operator_of, word_of};
+use crate::word::{Keyword, is_exactly, keyword_of, operand_of, operator_of};
 
 // A statement whose successors are still to be read.
 #[derive(Clone, Copy)]
@@ -20,46 +20,57 @@ pub(crate) enum Head {
     Halt,
 }
 
-// The next token, or the column past the last byte.
-fn take_token<'a>(cursor: &mut Cursor<'a>) -> Result<Token<'a>, usize>
-    requires { end_of cursor.old < 2 ^ 64 }
-    ensures token { Gave (end_of cursor.old) (ahead cursor.old) result (ahead cursor.new) }
-    ensures end { end_of cursor.new ≡ end_of cursor.old }
-{
-    let end = cursor.column + cursor.rest.len();
-    cursor.next().ok_or(end)
+// Where the tokens stop to begin a line: at the one in that column, or too early, at the end.
+#[derive(Clone, Copy, PartialEq, Eq, Debug)]
+pub(crate) enum Stop {
+    At(usize),
+    TooEarly,
 }
 
-fn take_label(cursor: &mut Cursor<'_>) -> Result<Label, usize>
-    requires { end_of cursor.old < 2 ^ 64 }
-    ensures took { Took label_of (end_of cursor.old) (ahead cursor.old) result (ahead cursor.new) }
-    ensures end { end_of cursor.new ≡ end_of cursor.old }
-{
-    let token = take_token(cursor)?;
-    Label::from_token(token.text).ok_or(token.column)
+impl Stop {
+    // The column, where the line ends before the column `end`.
+    fn column(self, end: usize) -> usize
+        ensures { result ≡ column_of end self }
+    {
+        match self {
+            Stop::At(column) => column,
+            Stop::TooEarly => end,
+        }
+    }
 }
 
-fn take_operand(cursor: &mut Cursor<'_>) -> Result<Operand<i64>, usize>
-    requires { end_of cursor.old < 2 ^ 64 }
-    ensures took { Took operand_spelt (end_of cursor.old) (ahead cursor.old) result (ahead cursor.new) }
-    ensures end { end_of cursor.new ≡ end_of cursor.old }
+fn take_token<'a>(cursor: &mut Cursor<'a>) -> Result<Token<'a>, Stop>
+    ensures { Gave (ahead cursor.old) result (ahead cursor.new) }
+{
+    cursor.next().ok_or(Stop::TooEarly)
+}
+
+// The next token, as the test reads it.
+fn take<T: Drop, F: FnOnce(&[u8]) -> Option<T>>(cursor: &mut Cursor<'_>, test: F) -> Result<T, Stop>
+    requires { F.IsAlwaysCallable test }
+    ensures { Takes (FnOnceReturnsAt F.FnOnce test) (ahead cursor.old) result (ahead cursor.new) }
 {
     let token = take_token(cursor)?;
-    operand_of(token.text).ok_or(token.column)
+    test(token.text).ok_or(Stop::At(token.column))
+}
+
+fn take_label(cursor: &mut Cursor<'_>) -> Result<Label, Stop>
+    ensures { Took label_of (ahead cursor.old) result (ahead cursor.new) }
+{
+    take(cursor, |text| Label::from_token(text))
+}
+
+fn take_operand(cursor: &mut Cursor<'_>) -> Result<Operand<i64>, Stop>
+    ensures { Took operand_spelt (ahead cursor.old) result (ahead cursor.new) }
+{
+    take(cursor, |text| operand_of(text))
 }
 
 // A token that is spelt just so.
-fn take_exactly(cursor: &mut Cursor<'_>, spelling: &str) -> Result<(), usize>
-    requires { end_of cursor.old < 2 ^ 64 }
-    ensures took { Took (exactly spelling.now) (end_of cursor.old) (ahead cursor.old) result (ahead cursor.new) }
-    ensures end { end_of cursor.new ≡ end_of cursor.old }
+fn take_exactly(cursor: &mut Cursor<'_>, spelling: &str) -> Result<(), Stop>
+    ensures { Took (exactly spelling.now) (ahead cursor.old) result (ahead cursor.new) }
 {
-    let token = take_token(cursor)?;
-    if is_exactly(token.text, spelling) {
-        Ok(())
-    } else {
-        Err(token.column)
-    }
+    take(cursor, |text| is_exactly(text, spelling).then_some(()))
 }
 
 // What may follow `v = o`: an operator and an operand, or nothing.
@@ -67,16 +78,11 @@ fn take_second(
     cursor: &mut Cursor<'_>,
     v: Variable,
     first: Operand<i64>,
-) -> Result<Action<i64>, usize>
-    requires { end_of cursor.old < 2 ^ 64 }
-    ensures leads { Joined (end_of cursor.old) v first (ahead cursor.old) result (ahead cursor.new) }
-    ensures end { end_of cursor.new ≡ end_of cursor.old }
+) -> Result<Action<i64>, Stop>
+    ensures { Joined v first (ahead cursor.old) result (ahead cursor.new) }
 {
     let mut peek = *cursor;
-    let Some(token) = peek.next() else {
-        return Ok(Action::Set(v, first));
-    };
-    let Some(operator) = operator_of(token.text) else {
+    let Some(operator) = peek.next().and_then(|token| operator_of(token.text)) else {
         return Ok(Action::Set(v, first));
     };
     *cursor = peek;
@@ -85,54 +91,37 @@ fn take_second(
 }
 
 // What follows `v`: `= get`, `= o` or `= o op o`.
-fn take_assignment(cursor: &mut Cursor<'_>, v: Variable) -> Result<Action<i64>, usize>
-    requires { end_of cursor.old < 2 ^ 64 }
-    ensures leads { Assigned (end_of cursor.old) v (ahead cursor.old) result (ahead cursor.new) }
-    ensures end { end_of cursor.new ≡ end_of cursor.old }
+fn take_assignment(cursor: &mut Cursor<'_>, v: Variable) -> Result<Action<i64>, Stop>
+    ensures { Assigned v (ahead cursor.old) result (ahead cursor.new) }
 {
     take_exactly(cursor, "=")?;
     let token = take_token(cursor)?;
-    if let Word::Get = word_of(token.text) {
+    if keyword_of(token.text) == Some(Keyword::Get) {
         return Ok(Action::Get(v));
     }
-    let Some(first) = operand_of(token.text) else {
-        return Err(token.column);
-    };
+    let first = operand_of(token.text).ok_or(Stop::At(token.column))?;
     take_second(cursor, v, first)
 }
 
-fn take_statement(cursor: &mut Cursor<'_>) -> Result<Head, usize>
-    requires { end_of cursor.old < 2 ^ 64 }
-    ensures leads { Stated (end_of cursor.old) (ahead cursor.old) result (ahead cursor.new) }
-    ensures end { end_of cursor.new ≡ end_of cursor.old }
+fn take_statement(cursor: &mut Cursor<'_>) -> Result<Head, Stop>
+    ensures { Stated (ahead cursor.old) result (ahead cursor.new) }
 {
     let token = take_token(cursor)?;
-    match word_of(token.text) {
-        Word::Pass => Ok(Head::Act(Action::Pass)),
-        Word::Halt => Ok(Head::Halt),
-        Word::If => {
-            let tested = take_operand(cursor)?;
-            Ok(Head::Test(tested))
+    match keyword_of(token.text) {
+        Some(Keyword::Pass) => Ok(Head::Act(Action::Pass)),
+        Some(Keyword::Halt) => Ok(Head::Halt),
+        Some(Keyword::If) => Ok(Head::Test(take_operand(cursor)?)),
+        Some(Keyword::Put) => Ok(Head::Act(Action::Put(take_operand(cursor)?))),
+        Some(Keyword::Get) => Err(Stop::At(token.column)),
+        None => {
+            let v = Variable::from_token(token.text).ok_or(Stop::At(token.column))?;
+            Ok(Head::Act(take_assignment(cursor, v)?))
         }
-        Word::Put => {
-            let told = take_operand(cursor)?;
-            Ok(Head::Act(Action::Put(told)))
-        }
-        Word::Other => {
-            let Some(v) = Variable::from_token(token.text) else {
-                return Err(token.column);
-            };
-            let action = take_assignment(cursor, v)?;
-            Ok(Head::Act(action))
-        }
-        Word::Get => Err(token.column),
     }
 }
 
-fn take_successors(cursor: &mut Cursor<'_>, head: Head) -> Result<Statement<i64>, usize>
-    requires { end_of cursor.old < 2 ^ 64 }
-    ensures leads { Pointed (end_of cursor.old) head (ahead cursor.old) result (ahead cursor.new) }
-    ensures end { end_of cursor.new ≡ end_of cursor.old }
+fn take_successors(cursor: &mut Cursor<'_>, head: Head) -> Result<Statement<i64>, Stop>
+    ensures { Pointed head (ahead cursor.old) result (ahead cursor.new) }
 {
     match head {
         Head::Halt => Ok(Statement::Halt),
@@ -150,17 +139,23 @@ fn take_successors(cursor: &mut Cursor<'_>, head: Head) -> Result<Statement<i64>
     }
 }
 
-// The line that the tokens spell, its numbers not yet held to 32 bits.
+fn take_line(cursor: &mut Cursor<'_>) -> Result<Line<i64>, Stop>
+    ensures { result ≡ run start (ahead cursor.old) }
+{
+    let label = take_label(cursor)?;
+    let head = take_statement(cursor)?;
+    let statement = take_successors(cursor, head)?;
+    match cursor.next() {
+        None => Ok(Line { label, statement }),
+        Some(token) => Err(Stop::At(token.column)),
+    }
+}
+
+// The line that the tokens spell, its numbers not yet held to 32 bits, or the column of the first
+// token that no line has there, or one past the last byte where the tokens stop too early.
 pub(crate) fn parse(text: &[u8]) -> Result<Line<i64>, usize>
-    requires { length text.now < 2 ^ 63 }
     ensures { result ≡ parsed text.now }
 {
     let mut cursor = Cursor::new(text);
-    let label = take_label(&mut cursor)?;
-    let head = take_statement(&mut cursor)?;
-    let statement = take_successors(&mut cursor, head)?;
-    match cursor.next() {
-        None => Ok(Line { label, statement }),
-        Some(token) => Err(token.column),
-    }
+    take_line(&mut cursor).map_err(|stop| stop.column(text.len() + 1))
 }

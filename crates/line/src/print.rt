@@ -1,53 +1,55 @@
 // A line as text: its tokens parted by single spaces.
-ghost use Rattle.std.specs.Prelude.{◌≡◌, ℕ, ◌+◌, ◌<◌, ◌≤◌, [], ◌∷◌, ◌++◌, length, Ok};
+ghost use Rattle.std.specs.Prelude.{◌≡◌, ℕ, ◌+◌, ◌≤◌, ◌∷◌, ◌++◌, length, Ok};
+ghost use Rattle.arrayvec.specs.ArrayVec.{array_vec_len};
 ghost use Rattle.line.specs.Grammar.{spell_operand, spell_operator, spell_action, spell_statement, spaced, printed, EachOperand, EachAction, EachStatement, Fits, Prints};
 ghost use Rattle.line.specs.Readings.{reading};
-ghost use Rattle.line.specs.Sheets.{ink_of};
-ghost use Rattle.line.specs.Words.{variable_text};
 
-use crate::sheet::Sheet;
 use crate::syntax::{Action, Line, Operand, Operator, Statement};
-use crate::variable::Variable;
+use arrayvec::ArrayVec;
 use fault::{Flaw, Kind};
+use itoa::Buffer;
 
 // The most bytes that a printed line can have.
 pub const LONGEST: usize = 51;
 
-fn put_word(sheet: &mut Sheet, word: &[u8])
-    requires { sheet.old.len + 1 + length word.now ≤ 51 }
-    ensures ink { ink_of sheet.new ≡ ink_of sheet.old ++ 32 ∷ word.now }
-    ensures len { sheet.new.len ≡ sheet.old.len + 1 + length word.now }
+// A text that is written from its start on.
+type Sheet = ArrayVec<u8, LONGEST>;
+
+fn put(sheet: &mut Sheet, text: &[u8])
+    requires { array_vec_len sheet.old + length text.now ≤ LONGEST }
+    ensures { sheet.new.items ≡ sheet.old.items ++ text.now }
 {
-    sheet.push(b' ');
-    sheet.push_all(word);
+    let Ok(()) = sheet.try_extend_from_slice(text) else {
+        unreachable()
+    };
 }
 
-fn put_variable(sheet: &mut Sheet, v: Variable)
-    requires { sheet.old.len + 2 ≤ 51 }
-    ensures ink { ink_of sheet.new ≡ ink_of sheet.old ++ 32 ∷ variable_text v }
-    ensures len { sheet.new.len ≡ sheet.old.len + 2 }
+fn put_word(sheet: &mut Sheet, word: &[u8])
+    requires { array_vec_len sheet.old + 1 + length word.now ≤ LONGEST }
+    ensures { sheet.new.items ≡ sheet.old.items ++ 32 ∷ word.now }
 {
-    put_word(sheet, &[v.letter()]);
+    sheet.push(b' ');
+    put(sheet, word);
 }
 
 fn put_operand(sheet: &mut Sheet, operand: Operand)
-    requires { sheet.old.len + 12 ≤ 51 }
-    ensures ink { ink_of sheet.new ≡ ink_of sheet.old ++ 32 ∷ spell_operand operand }
-    ensures len { sheet.new.len ≤ sheet.old.len + 12 }
+    requires { array_vec_len sheet.old + 12 ≤ LONGEST }
+    ensures ink { sheet.new.items ≡ sheet.old.items ++ 32 ∷ spell_operand operand }
+    ensures short { length (spell_operand operand) ≤ 11 }
     ensures fits { EachOperand Fits operand }
 {
     match operand {
-        Operand::Var(v) => put_variable(sheet, v),
+        Operand::Var(v) => put_word(sheet, &[v.letter()]),
         Operand::Num(n) => {
-            sheet.push(b' ');
-            sheet.push_number(n);
+            let mut digits = Buffer::new();
+            put_word(sheet, digits.format(n).as_bytes());
         }
     }
 }
 
 fn spelling(operator: Operator) -> &'static str
     ensures text { result.now ≡ spell_operator operator }
-    ensures len { length result.now ≤ 2 }
+    ensures short { length result.now ≤ 2 }
 {
     match operator {
         Operator::Add => "+",
@@ -62,27 +64,27 @@ fn spelling(operator: Operator) -> &'static str
 }
 
 fn put_action(sheet: &mut Sheet, action: Action)
-    requires { sheet.old.len ≤ 8 }
-    ensures ink { ink_of sheet.new ≡ ink_of sheet.old ++ spaced (spell_action action) }
-    ensures len { sheet.new.len ≤ sheet.old.len + 31 }
+    requires { array_vec_len sheet.old ≤ 8 }
+    ensures ink { sheet.new.items ≡ sheet.old.items ++ spaced (spell_action action) }
+    ensures short { length (spaced (spell_action action)) ≤ 31 }
     ensures fits { EachAction Fits action }
 {
     match action {
         Action::Pass => put_word(sheet, b"pass"),
         Action::Set(v, o) => {
-            put_variable(sheet, v);
+            put_word(sheet, &[v.letter()]);
             put_word(sheet, b"=");
             put_operand(sheet, o);
         }
         Action::Compute(v, a, operator, b) => {
-            put_variable(sheet, v);
+            put_word(sheet, &[v.letter()]);
             put_word(sheet, b"=");
             put_operand(sheet, a);
             put_word(sheet, spelling(operator).as_bytes());
             put_operand(sheet, b);
         }
         Action::Get(v) => {
-            put_variable(sheet, v);
+            put_word(sheet, &[v.letter()]);
             put_word(sheet, b"=");
             put_word(sheet, b"get");
         }
@@ -94,9 +96,9 @@ fn put_action(sheet: &mut Sheet, action: Action)
 }
 
 fn put_statement(sheet: &mut Sheet, statement: Statement)
-    requires { sheet.old.len ≤ 8 }
-    ensures ink { ink_of sheet.new ≡ ink_of sheet.old ++ spaced (spell_statement statement) }
-    ensures len { sheet.new.len ≤ 51 }
+    requires { array_vec_len sheet.old ≤ 8 }
+    ensures ink { sheet.new.items ≡ sheet.old.items ++ spaced (spell_statement statement) }
+    ensures short { length (spaced (spell_statement statement)) ≤ 43 }
     ensures fits { EachStatement Fits statement }
 {
     match statement {
@@ -134,16 +136,12 @@ fn copy_out(text: &[u8], out: &mut [u8]) -> Result<usize, Flaw>
 impl Line {
     // The line's text.
     fn written(&self) -> Sheet
-        ensures ink { ink_of result ≡ printed self.now }
-        ensures len { result.len ≤ 51 }
+        ensures ink { result.items ≡ printed self.now }
         ensures longest { length (printed self.now) ≤ 51 }
         ensures back { reading (printed self.now) ≡ Ok self.now }
     {
-        let mut sheet = Sheet {
-            bytes: [0; LONGEST],
-            len: 0,
-        };
-        sheet.push_all(self.label.text());
+        let mut sheet = Sheet::new();
+        put(&mut sheet, self.label.text());
         put_statement(&mut sheet, self.statement);
         sheet
     }
@@ -155,6 +153,6 @@ impl Line {
         ensures back { reading (printed self.now) ≡ Ok self.now }
     {
         let sheet = self.written();
-        copy_out(sheet.text(), out)
+        copy_out(sheet.as_slice(), out)
     }
 }

@@ -1,22 +1,20 @@
 // What one token is, taken alone.
 ghost use Rattle.std.specs.Prelude.{◌≡◌};
 ghost use Rattle.std.specs.Str.{bytes_eq};
-ghost use Rattle.line.specs.Words.{word_of, sign_of, double_of, operator_spelt, operand_spelt};
+ghost use Rattle.line.specs.Words.{keyword_of, sign_of, double_of, operator_spelt, operand_spelt};
 
 use crate::syntax::{Operand, Operator};
 use crate::variable::Variable;
 use numeral::wide_value;
 use std::str::from_utf8;
 
-// A keyword, or none.
-#[derive(Clone, Copy)]
-pub(crate) enum Word {
+#[derive(Clone, Copy, PartialEq, Eq, Debug)]
+pub(crate) enum Keyword {
     Pass,
     Halt,
     If,
     Get,
     Put,
-    Other,
 }
 
 pub(crate) fn is_exactly(token: &[u8], spelling: &str) -> bool
@@ -25,19 +23,16 @@ pub(crate) fn is_exactly(token: &[u8], spelling: &str) -> bool
     token == spelling.as_bytes()
 }
 
-pub(crate) fn word_of(token: &[u8]) -> Word
-    ensures { result ≡ word_of token.now }
+pub(crate) fn keyword_of(token: &[u8]) -> Option<Keyword>
+    ensures { result ≡ keyword_of token.now }
 {
-    let Ok(text) = from_utf8(token) else {
-        return Word::Other;
-    };
-    match text {
-        "pass" => Word::Pass,
-        "halt" => Word::Halt,
-        "if" => Word::If,
-        "get" => Word::Get,
-        "put" => Word::Put,
-        _ => Word::Other,
+    match from_utf8(token).ok()? {
+        "pass" => Some(Keyword::Pass),
+        "halt" => Some(Keyword::Halt),
+        "if" => Some(Keyword::If),
+        "get" => Some(Keyword::Get),
+        "put" => Some(Keyword::Put),
+        _ => None,
     }
 }
 
@@ -61,10 +56,7 @@ fn operator_of_sign(sign: char) -> Option<Operator>
 fn operator_of_pair(token: &[u8]) -> Option<Operator>
     ensures { result ≡ double_of token.now }
 {
-    let Ok(text) = from_utf8(token) else {
-        return None;
-    };
-    match text {
+    match from_utf8(token).ok()? {
         "==" => Some(Operator::Equal),
         _ => None,
     }

@@ -1,32 +1,15 @@
 -- How the tests on a number's spelling read. Assumes nothing.
-use Rattle.std.proofs.Common.{◌≡◌, ℕ, zero, suc, ◌-◌, ◌^◌, ◌<◌, ◌≤◌, Bool, true, false, cond, ◌&&◌, eqb, leb, List, [], ◌∷◌, length, get_or, take, drop, ℤ, pos, negsuc, neg_ℤ, nat_abs, Some, None, IsUtf8, IsAscii, decimal, sym, refl, ap, ◌∙◌, subst, ⊎_elim, le_refl, arith}
+use Rattle.std.proofs.Common.{◌≡◌, ℕ, zero, suc, ◌^◌, ◌<◌, ◌≤◌, true, false, cond, ◌&&◌, eqb, leb, List, [], ◌∷◌, length, get_or, ℤ, pos, negsuc, neg_ℤ, nat_abs, Some, None, IsUtf8, IsAscii, decimal, sym, refl, ap, ◌∙◌, subst, ⊎_elim, arith}
 use lib.Signed.{mag}
 use Rattle.std.specs.Fmt.{signed_decimal}
 use Rattle.std.proofs.lemmas.Fmt.{decimal-digits_value, decimal_digit, decimal_is_IsNumeral, decimal_nonempty, first_decimal, digits_decimal, length-decimal-le, IsAscii-signed}
 use Rattle.std.specs.Int.{is_in_range}
 use Rattle.std.proofs.lemmas.Str.{IsUtf8-from_ascii}
 use Rattle.std.specs.Str.{all_ascii_digits}
-use Rattle.std.proofs.lemmas.Slice.{between_to_end}
-use Rattle.std.proofs.lemmas.Bool.{le-leb, and_from, and_parts, eq-eqb, ne_eqb, leb-true, eqb-true, cases_lt, cases_Bool, cond_both, false≢true}
+use Rattle.std.proofs.lemmas.Bool.{le-leb, and_from, and_parts, ne_eqb, leb-true, eqb-true, cases_lt, cases_Bool, cond_both, false≢true}
 use Rattle.std.proofs.lemmas.Str.Parse.{IsNumeralModel, numerals_by_value, tells_all_ascii_digits, digits_value_short}
 use Rattle.std.specs.Str.Parse.{digits_value, IsNumeral, without_leading_sign, signed_digits_value}
 use Rattle.numeral.specs.Numbers.{leads, is_empty, shaped, int_of, wide_of, Short, Spelt}
-
-after : (d : ℕ) (ds : List ℕ) → take (length (d ∷ ds) - 1) (drop 1 (d ∷ ds)) ≡ ds
-after d ds = between_to_end (d ∷ ds) 1 (length (d ∷ ds)) (le_refl (length (d ∷ ds)))
-
-pub leads_first : (t : List ℕ) (r : Bool) → 0 < length t → 49 ≤ get_or t 0 0 → get_or t 0 0 ≤ 57 → length (take (length t - 1) (drop 1 t)) ≤ 9 → r ≡ all_ascii_digits (take (length t - 1) (drop 1 t)) → r ≡ leads t
-leads_first [] r h a b s e = absurd (omega arith)
-leads_first (d ∷ ds) r h a b s e =
-    let short : length ds ≤ 9 = rw (after d ds) at s in
-    e ∙ ap all_ascii_digits (after d ds)
-    ∙ sym (ap (λ x. x && (leb (length ds) 9 && all_ascii_digits ds)) (and_from (leb 49 d) (leb d 57) (le-leb 49 d a) (le-leb d 57 b))
-    ∙ ap (λ x. x && all_ascii_digits ds) (le-leb (length ds) 9 short))
-
-pub shaped_minus : (t : List ℕ) (r : Bool) → 0 < length t → get_or t 0 0 ≡ 45 → r ≡ leads (take (length t - 1) (drop 1 t)) → r ≡ shaped t
-shaped_minus [] r h a e = absurd (omega arith)
-shaped_minus (c ∷ cs) r h a e =
-    e ∙ ap leads (after c cs) ∙ sym (ap (λ x. cond x (leads cs) (cond (eqb c 48) (is_empty cs) (leads (c ∷ cs)))) (eq-eqb c 45 a))
 
 -- the words of the shelf for runs of digits
 pub own : IsNumeralModel (λ ds. all_ascii_digits ds ≡ true) (digits_value 10)

@@ -1,12 +1,12 @@
 -- Numbers as text. Assumes nothing.
-use Rattle.std.specs.Prelude.{◌≡◌, ℕ, ◌^◌, ◌<◌, Bool, true, false, cond, ◌&&◌, List, [], ◌∷◌, length, ℤ, Some, None, Option, ◌==◌, ◌≢◌, nat_le, nat_lt, unsigned_abs}
+use Rattle.std.specs.Prelude.{◌≡◌, ℕ, ◌^◌, ◌<◌, Bool, true, false, cond, ◌&&◌, List, [], ◌∷◌, length, ℤ, Some, None, Ok, Err, Option, Result, ◌==◌, ◌≢◌, nat_le, nat_lt, unsigned_abs}
 use Rattle.std.specs.Int.Signed.{mag}
 use Rattle.std.specs.Str.Parse.{signed_digits_value}
 use Rattle.std.specs.Int.{is_in_range}
 use Rattle.std.specs.Fmt.{signed_decimal}
 use Rattle.std.specs.Str.{all_ascii_digits}
-use Rattle.numeral.specs.declared.Numeral.{Numeral}
-use Rattle.numeral.specs.declared.Numeral.TheVariants.{NotANumber, OutOfRange, Value}
+use Rattle.numeral.specs.declared.NumeralError.{NumeralError}
+use Rattle.numeral.specs.declared.NumeralError.TheVariants.{NotANumber, OutOfRange}
 
 -- a digit 1 to 9 and at most nine more digits
 abbrev pub leads : List ℕ → Bool
@@ -46,13 +46,13 @@ Spelt t None = (z : ℤ) → Short z → t ≢ signed_decimal z
 abbrev pub narrow_of : ℤ → Option ℤ
 narrow_of z = cond (fits z) (Some z) None
 
-abbrev pub held : Option ℤ → Numeral
-held None = OutOfRange
-held (Some z) = Value z
+abbrev pub held : Option ℤ → Result ℤ NumeralError
+held None = Err OutOfRange
+held (Some z) = Ok z
 
-abbrev pub narrowed : Option ℤ → Numeral
-narrowed None = NotANumber
+abbrev pub narrowed : Option ℤ → Result ℤ NumeralError
+narrowed None = Err NotANumber
 narrowed (Some z) = held (narrow_of z)
 
-abbrev pub numeral_spelt : List ℕ → Numeral
+abbrev pub numeral_spelt : List ℕ → Result ℤ NumeralError
 numeral_spelt t = narrowed (wide_of t)

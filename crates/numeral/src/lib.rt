@@ -7,23 +7,17 @@ ghost use Rattle.numeral.specs.Numbers.{leads, shaped, int_of, wide_of, narrow_o
 
 use std::str::from_utf8;
 
-// What a text is as a number of 32 signed bits.
+// Why a text is no number of 32 signed bits.
 #[derive(Clone, Copy, PartialEq, Eq, Debug)]
-pub enum Numeral {
+pub enum NumeralError {
     NotANumber,
     OutOfRange,
-    Value(i32),
 }
 
 fn all_digits(text: &[u8]) -> bool
     ensures { result ≡ all_ascii_digits text.now }
 {
-    for d in text {
-        if !d.is_ascii_digit() {
-            return false;
-        }
-    }
-    true
+    text.iter().all(|d| d.is_ascii_digit())
 }
 
 // A digit 1 to 9 and at most nine more digits.
@@ -62,13 +56,13 @@ fn spelt_number(text: &[u8]) -> i64
     ensures value { result ≡ int_of text.now }
     ensures spelt { Spelt text.now (Some result) }
 {
-    match from_utf8(text) {
-        Ok(digits) => match digits.parse::<i64>() {
-            Ok(n) => n,
-            Err(_) => unreachable(),
-        },
-        Err(_) => unreachable(),
-    }
+    let Ok(digits) = from_utf8(text) else {
+        unreachable()
+    };
+    let Ok(number) = digits.parse::<i64>() else {
+        unreachable()
+    };
+    number
 }
 
 // The number of at most ten digits that the text spells.
@@ -76,11 +70,7 @@ pub fn wide_value(text: &[u8]) -> Option<i64>
     ensures value { result ≡ wide_of text.now }
     ensures spelt { Spelt text.now result }
 {
-    if is_number(text) {
-        Some(spelt_number(text))
-    } else {
-        None
-    }
+    is_number(text).then(|| spelt_number(text))
 }
 
 // The same number, where 32 signed bits hold it.
@@ -91,14 +81,9 @@ pub fn narrow(number: i64) -> Option<i32>
 }
 
 // The number of 32 signed bits that the text spells.
-pub fn numeral_of(text: &[u8]) -> Numeral
+pub fn numeral_of(text: &[u8]) -> Result<i32, NumeralError>
     ensures { result ≡ numeral_spelt text.now }
 {
-    match wide_value(text) {
-        None => Numeral::NotANumber,
-        Some(number) => match narrow(number) {
-            Some(value) => Numeral::Value(value),
-            None => Numeral::OutOfRange,
-        },
-    }
+    let number = wide_value(text).ok_or(NumeralError::NotANumber)?;
+    narrow(number).ok_or(NumeralError::OutOfRange)
 }

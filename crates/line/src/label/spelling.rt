@@ -9,12 +9,7 @@ use crate::label::Label;
 fn all_letters(token: &[u8]) -> bool
     ensures { result ≡ only_letters token.now }
 {
-    for b in token {
-        if !is_letter(*b) {
-            return false;
-        }
-    }
-    true
+    token.iter().all(|b| is_letter(*b))
 }
 
 impl Label {

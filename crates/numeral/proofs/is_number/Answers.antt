@@ -2,5 +2,5 @@ use Rattle.std.proofs.Common.{sym, ◌∙◌}
 use Rattle.numeral.proofs.Numerals.{spelt_none}
 use Rattle.numeral.proofs.is_number.Goals as goal
 
-pub returns : goal.returns
-returns c = record { value = c.has_shape.ensures; none = λ e. spelt_none c.args.text.now (sym c.has_shape.ensures ∙ e) }
+pub returns-clause-none : goal.returns-clause-none
+returns-clause-none c = λ e. spelt_none c.args.text.now (sym c.has_shape.ensures ∙ e)

@@ -1,31 +1,29 @@
-use Rattle.std.proofs.Common.{◌≡◌, ℕ, ◌+◌, ◌<◌, false, cond, List, length, get_or, drop, Some, sym, refl, ap, ◌∙◌}
-use Rattle.std.proofs.lemmas.List.{drop_more, drop_all}
-use Rattle.line.specs.declared.class.Class.{Class}
-use Rattle.line.specs.declared.class.Class.TheVariants.{Space, Letter, Digit, Sign, Foreign}
-use Rattle.line.specs.Classes.{class_by_rule, is_foreign, foreign_at}
+use Rattle.std.proofs.Common.{◌≡◌, ℕ, ◌+◌, Bool, true, false, cond, List, [], ◌∷◌, Some, refl, sym, ap, ◌∙◌, rules, tests}
+use Rattle.std.specs.List.{position_from}
+use Rattle.std.specs.Option.{option_map}
+use Rattle.std.proofs.lemmas.Iterator.{YieldsList-from_slice}
+use Rattle.std.proofs.lemmas.Iterator.Adapters.{position_from-zero}
+use Rattle.std.proofs.lemmas.Iterator.Search.{position_from_yields_List}
+use Rattle.line.specs.Classes.{class_by_rule, is_foreign}
 use Rattle.line.proofs.class.first_foreign.Goals as goal
 
-other : (k : Class) → (k ≡ Foreign → ⊥) → is_foreign k ≡ false
-other Foreign h = absurd (h refl)
-other Space h = refl
-other Letter h = refl
-other Digit h = refl
-other Sign h = refl
-
-step : (s : List ℕ) (i : ℕ) → i < length s → foreign_at (i + 1) (drop i s) ≡ cond (is_foreign (class_by_rule (get_or s i 0))) (Some (i + 1)) (foreign_at (i + 1 + 1) (drop (i + 1) s))
-step s i h = ap (foreign_at (i + 1)) (drop_more s i 0 h)
-
-here : (s : List ℕ) (i : ℕ) → i < length s → Foreign ≡ class_by_rule (get_or s i 0) → foreign_at (i + 1) (drop i s) ≡ Some (i + 1)
-here s i h e = step s i h ∙ ap (λ k. cond (is_foreign k) (Some (i + 1)) (foreign_at (i + 1 + 1) (drop (i + 1) s))) (sym e)
-
-past : (s : List ℕ) (i : ℕ) → i < length s → (class_by_rule (get_or s i 0) ≡ Foreign → ⊥) → foreign_at (i + 1) (drop i s) ≡ foreign_at (i + 1 + 1) (drop (i + 1) s)
-past s i h e = step s i h ∙ ap (λ b. cond b (Some (i + 1)) (foreign_at (i + 1 + 1) (drop (i + 1) s))) (other (class_by_rule (get_or s i 0)) e)
-
-pub returns-in-Foreign : goal.returns-in-Foreign
-returns-in-Foreign c = sym (c.loop-i.invariant ∙ here _ _ c.loop-i-test.true c.in-Foreign.ensures)
-
-pub loop-i-preserved : goal.loop-i-preserved
-loop-i-preserved c = c.loop-i.invariant ∙ past _ _ c.loop-i-test.true (λ e. c.in_default.not-Foreign (c.class_of.ensures ∙ e))
+-- a place counted from one more
+shifted : (test : ℕ → Bool) (i : ℕ) (xs : List ℕ) → option_map (λ k. k + 1) (position_from test i xs) ≡ position_from test (i + 1) xs
+shifted test i [] = refl
+shifted test i (x ∷ xs) =
+    elim (test x) as (λ b. option_map (λ k. k + 1) (cond b (Some i) (position_from test (i + 1) xs)) ≡ cond b (Some (i + 1)) (position_from test (i + 1 + 1) xs))
+    [ true ↦ refl | false ↦ shifted test (i + 1) xs ]
 
 pub returns : goal.returns
-returns c = sym (c.loop-i.invariant ∙ ap (foreign_at (c.loop-i.i + 1)) (drop_all _ c.args.text.now c.loop-i-test.false))
+returns c =
+    let test : ℕ → Bool = λ b. is_foreign (class_by_rule b) in
+    let t = c.args.text.now in
+    let found = position_from_yields_List test _ _ _ c.position.ensures.ran (YieldsList-from_slice t cc) (λ x b q k. search (rules, tests)) in
+    ap (option_map (λ k. k + 1)) (sym c.in_ok-place.was ∙ found ∙ position_from-zero test t) ∙ shifted test 0 t
+
+pub returns-in_err-place : goal.returns-in_err-place
+returns-in_err-place c =
+    let test : ℕ → Bool = λ b. is_foreign (class_by_rule b) in
+    let t = c.args.text.now in
+    let found = position_from_yields_List test _ _ _ c.position.ensures.ran (YieldsList-from_slice t cc) (λ x b q k. search (rules, tests)) in
+    c.from_residual.ensures ∙ ap (option_map (λ k. k + 1)) (sym c.in_err-place.was ∙ found ∙ position_from-zero test t) ∙ shifted test 0 t

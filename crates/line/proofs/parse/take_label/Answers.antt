@@ -1,12 +1,7 @@
-use Rattle.std.proofs.Common.{ap, ◌∙◌, rules}
-use Rattle.std.specs.Option.{ok_or}
+use Rattle.std.proofs.Common.{◌≡◌, subst, rules}
 use Rattle.line.specs.Words.{label_of}
 use Rattle.line.proofs.Runs.{took}
 use Rattle.line.proofs.parse.take_label.Goals as goal
 
 pub returns : goal.returns
-returns c =
-    record {
-      took = took label_of _ _ c.in_ok-token.token _ _ c.in_ok-token.ensures.token (c.ok_or.ensures.value ∙ ap (λ o. ok_or o c.in_ok-token.token.column) c.from_token.ensures);
-      end = search rules;
-    }
+returns c = took label_of c.take.ensures (λ t o k. subst (λ u. label_of u ≡ o) k.2 (search rules))

@@ -1,13 +1,11 @@
-use Rattle.std.proofs.Common.{◌≡◌, ◌≤◌, ◌++◌, length, ap, ◌∙◌, arith, length-take}
-use Rattle.line.specs.Grammar.{spaced, spell_statement, printed}
-use Rattle.line.specs.Sheets.{ink_of}
+use Rattle.std.proofs.Common.{length, ap, arith, length-append}
+use Rattle.line.specs.Grammar.{spaced, spell_statement}
+use Rattle.line.specs.Words.{label_text}
 use Rattle.line.proofs.Answered.{reads_back}
 use Rattle.line.proofs.print.Line.written.Goals as goal
 
-pub returns : goal.returns
-returns c =
+pub returns-clause-back : goal.returns-clause-back
+returns-clause-back c =
     let x = c.args.self.now in
-    let sheet = c.put_statement.new.sheet in
-    let e : ink_of sheet ≡ printed x = c.put_statement.ensures.ink ∙ ap (λ l. l ++ spaced (spell_statement x.statement)) (c.push_all.ensures.ink ∙ c.text.ensures.text) in
-    let short : length (printed x) ≤ 51 = omega (arith, ap length e, length-take sheet.len sheet.bytes, c.put_statement.ensures.len) in
-    record { ink = e; len = c.put_statement.ensures.len; longest = short; back = reads_back x c.put_statement.ensures.fits short }
+    let words = c.put_statement.ensures in
+    reads_back x words.fits (omega (arith, length-append (label_text x.label) (spaced (spell_statement x.statement)), ap length c.text.ensures.text, c.text.ensures.few, words.short))

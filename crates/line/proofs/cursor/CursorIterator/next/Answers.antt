@@ -1,0 +1,18 @@
+use Rattle.std.proofs.Common.{length, ap, rules, true-eqb, false-eqb}
+use Rattle.line.proofs.Cuts.{left, next_none, next_some}
+use Rattle.line.proofs.cursor.CursorIterator.next.Goals as goal
+
+pub returns-then-is_empty-clause-steps : goal.returns-then-is_empty-clause-steps
+returns-then-is_empty-clause-steps c =
+    let e = c.spaces-start.ensures.value in
+    let cut = c.split_at.ensures in
+    next_none c.args.self.now.column c.args.self.now.rest.now _ _ _ _ _ e (left _ _ e) c.run.ensures.value cut.front cut.front_len cut.back (true-eqb _ 0 c.if-is_empty.ensures)
+
+pub returns-clause-steps : goal.returns-clause-steps
+returns-clause-steps c =
+    let e = c.spaces-start.ensures.value in
+    let cut = c.split_at.ensures in
+    next_some c.args.self.now.column c.args.self.now.rest.now _ _ _ _ _ e (left _ _ e) c.run.ensures.value cut.front cut.front_len cut.back (false-eqb _ 0 c.if-is_empty.ensures)
+
+pub returns-clause-goes : goal.returns-clause-goes
+returns-clause-goes c = let fewer = ap length (returns-clause-steps c) in search rules

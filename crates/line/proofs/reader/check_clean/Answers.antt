@@ -1,0 +1,9 @@
+use Rattle.std.proofs.Common.{arith}
+use Rattle.line.proofs.Answered.{answered, foreign_text}
+use Rattle.line.proofs.reader.check_clean.Goals as goal
+
+pub returns-in-Some : goal.returns-in-Some
+returns-in-Some c =
+    let t = c.args.text.now in
+    let e = foreign_text t c.in-Some.column (omega (arith, c.if-text-gt-MOST.false)) c.in-Some.ensures in
+    (e, answered t _ e)
