@@ -37,7 +37,8 @@ impl Draft {
 
     // How many lines there are.
     pub fn len(&self) -> usize
-        ensures { result ≡ length self.now }
+        ensures value { result ≡ length self.now }
+        ensures few { result ≤ 96 }
     {
         self.lines.len()
     }

@@ -23,7 +23,7 @@ impl Problem for Distance {
 
     const HEIGHT: u32 = 1001;
 
-    ghost height = { 1001 };
+    ghost HEIGHT = { 1001 };
 
     ghost given = { λ _. at_entry };
 
@@ -32,10 +32,6 @@ impl Problem for Distance {
     ghost monotone = { λ p n. depths_keep };
 
     ghost falls = { depths_fall };
-
-    fn falls_at_most(&self) -> u32 {
-        Self::HEIGHT
-    }
 
     fn at_entry(&self) -> Depth {
         Some(Level { at: 0 })

@@ -51,7 +51,7 @@ impl Problem for GenKill {
 
     const HEIGHT: u32 = 64;
 
-    ghost height = { 64 };
+    ghost HEIGHT = { 64 };
 
     ghost given = { λ p. p.given };
 
@@ -60,10 +60,6 @@ impl Problem for GenKill {
     ghost monotone = { λ p n a b. let e = slice_index_or p.effects n filling in sets_keep a b e.kept e.added };
 
     ghost falls = { sets_fall };
-
-    fn falls_at_most(&self) -> u32 {
-        Self::HEIGHT
-    }
 
     fn at_entry(&self) -> Set64 {
         self.given

@@ -10,15 +10,11 @@ pub trait Problem {
     // The most times that a fact can fall.
     const HEIGHT: u32;
 
-    ghost height: { ℕ };
+    ghost HEIGHT: { ℕ };
 
     ghost given: { Self → Self.Fact };
 
     ghost step: { Self → ℕ → Self.Fact → Self.Fact };
-
-    // HEIGHT, for the solver: no clause can name a constant.
-    fn falls_at_most(&self) -> u32
-        ensures { result ≡ height };
 
     // The entry's fact.
     fn at_entry(&self) -> Self::Fact
@@ -30,5 +26,5 @@ pub trait Problem {
 
     ghost monotone: { (p : Self) (n : ℕ) (a b : Self.Fact) → Below Self.Fact.Fact.meet a b → Below Self.Fact.Fact.meet (step p n a) (step p n b) };
 
-    ghost falls: { (a : Self.Fact) (from : List (Self.Fact)) → Fell Self.Fact.Fact.meet a from → length from ≤ height };
+    ghost falls: { (a : Self.Fact) (from : List (Self.Fact)) → Fell Self.Fact.Fact.meet a from → length from ≤ HEIGHT };
 }

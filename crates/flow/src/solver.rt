@@ -60,7 +60,7 @@ pub fn solve<G: Graph, P: Problem>(graph: &G, problem: &P) -> [P::Fact; MOST_NOD
     let mut queue = Queue::of_all(count);
     // Counted only to prove that this ends: nodes wait again only after a fall, and each node's fact
     // falls at most HEIGHT times.
-    let mut falls_left = count * problem.falls_at_most() as usize;
+    let mut falls_left = count * P::HEIGHT as usize;
     while let Some(n) = queue.pop() {
         if n != first
             && let Some(new) = equations.revised(&facts, n)
