@@ -23,7 +23,7 @@ loop-n-init g c =
       few = c.of_all-queue.ensures.few;
       going = start_table (laws g) (g.met.G.Graph.sized x) (g.met.G.Graph.edges x) (g.met.P.Problem.monotone c.args.problem.now)
           c.top-facts.result c.at_entry.result c.entry-first.result ws c.top-facts.ensures c.at_entry.ensures c.entry-first.ensures inside each;
-      paid = paid_begin g.P.Fact.Fact.meet g.P.Problem.height s.count _ _ (ap₂ ◌*◌ c.count-count.ensures c.falls_at_most.ensures);
+      paid = paid_begin g.P.Fact.Fact.meet g.P.Problem.HEIGHT s.count _ _ (ap₂ ◌*◌ c.count-count.ensures c.HEIGHT.ensures);
     }
 
 -- a visit at which the fact of a node fell
@@ -48,7 +48,7 @@ module _ (g : given.Over) (c : goal.After-push_all g) where
   abbrev edges : SameEdges (g.G.Graph.shape c.args.graph.now)
   edges = g.met.G.Graph.edges c.args.graph.now
 
-  fallen : (1 ≤ c.loop-n.falls_left) × Paid g.P.Fact.Fact.meet g.P.Problem.height (g.G.Graph.shape c.args.graph.now).count
+  fallen : (1 ≤ c.loop-n.falls_left) × Paid g.P.Fact.Fact.meet g.P.Problem.HEIGHT (g.G.Graph.shape c.args.graph.now).count
       (λ m. get_or (set c.loop-n.facts c.in-Some.n c.in-Some-revised.new) m g.P.Fact.Fact.top) (c.loop-n.falls_left - 1)
   fallen = turn_falls_table (laws g) sized edges (g.met.P.Problem.monotone c.args.problem.now) here g.met.P.Problem.falls c.in-Some-revised.ensures.1 c.loop-n.invariant.paid
 

@@ -12,7 +12,7 @@ invariant-loop-n g l =
       long : length l.facts ≡ 288;
       few : length l.queue ≤ 288;
       going : Going s top meet (g.P.Problem.given l.problem) (g.P.Problem.step l.problem) (λ n. get_or l.facts n top) l.queue;
-      paid : Paid meet g.P.Problem.height s.count (λ n. get_or l.facts n top) l.falls_left;
+      paid : Paid meet g.P.Problem.HEIGHT s.count (λ n. get_or l.facts n top) l.falls_left;
     }
 
 -- falls that are left, and then nodes that wait
