@@ -9,7 +9,8 @@ use Rattle.line.specs.Classes.{foreign_at}
 use Rattle.line.specs.Grammar.{spell, printed, Wide, Proper}
 use Rattle.line.specs.Pieces.{pieces}
 use Rattle.line.specs.Ranges.{beyond_at}
-use Rattle.line.specs.Readings.{flaw, ranged, spelt, clean, reading, tokens, Clean, Spells, too_long, foreign, not_a_line, out_of_range, Answers, Reads}
+use Rattle.fault.specs.Table.{flaw_at}
+use Rattle.line.specs.Readings.{ranged, spelt, clean, reading, tokens, Clean, Spells, too_long, foreign, not_a_line, out_of_range, Answers, Reads}
 use Rattle.line.specs.States.{start, done, run, placed, parsed}
 use Rattle.line.specs.Words.{Text}
 use Rattle.line.proofs.Bounds.{Within, within_none, none_within, proper_within, within_proper, proper_wide}
@@ -44,13 +45,13 @@ answers_clean bs None h q = answers_spelt bs (parsed bs) (h, q) refl
 
 answers : (bs : Text) → Answers bs (reading bs)
 answers bs =
-    cond_both (ltb 80 (length bs)) (Err (flaw TooLong 81)) (clean bs (foreign_at 1 bs)) (Answers bs)
+    cond_both (ltb 80 (length bs)) (Err (flaw_at TooLong 81)) (clean bs (foreign_at 1 bs)) (Answers bs)
     (λ e. too_long refl (ltb-true 80 (length bs) e))
     (λ e. answers_clean bs (foreign_at 1 bs) (omega (arith, ltb-false 80 (length bs) e)) refl)
 
 complete : (bs : Text) (x : Line ℤ) → Spells bs x → reading bs ≡ Ok x
 complete bs x s =
-    cond-false (ltb 80 (length bs)) (Err (flaw TooLong 81)) (clean bs (foreign_at 1 bs)) (le-ltb 80 (length bs) s.0.0)
+    cond-false (ltb 80 (length bs)) (Err (flaw_at TooLong 81)) (clean bs (foreign_at 1 bs)) (le-ltb 80 (length bs) s.0.0)
     ∙ ap (clean bs) s.0.1
     ∙ ap (λ r. spelt bs (placed (1 + length bs) r)) (run_walk start (pieces 1 bs) x (subst (λ (ts : List Text). walk start ts ≡ Some (done x)) (sym s.2) (spell_walk x (proper_wide x s.1))))
     ∙ ap (ranged x) (within_none (pieces 1 bs) (subst Within (sym s.2) (proper_within x s.1)))
@@ -69,9 +70,9 @@ pub answered : (bs : Text) (r : Result (Line ℤ) Flaw) → r ≡ reading bs →
 answered bs r e = subst (Reads bs) (sym e) (reads_exactly bs)
 
 -- each way through the reader
-pub foreign_text : (bs : Text) (c : ℕ) → length bs ≤ 80 → Some c ≡ foreign_at 1 bs → Err (flaw ForeignByte c) ≡ reading bs
-foreign_text bs c h e = sym (cond-false (ltb 80 (length bs)) (Err (flaw TooLong 81)) (clean bs (foreign_at 1 bs)) (le-ltb 80 (length bs) h) ∙ ap (clean bs) (sym e))
+pub foreign_text : (bs : Text) (c : ℕ) → length bs ≤ 80 → Some c ≡ foreign_at 1 bs → Err (flaw_at ForeignByte c) ≡ reading bs
+foreign_text bs c h e = sym (cond-false (ltb 80 (length bs)) (Err (flaw_at TooLong 81)) (clean bs (foreign_at 1 bs)) (le-ltb 80 (length bs) h) ∙ ap (clean bs) (sym e))
 
 pub clean_text : (bs : Text) (r : Result (Line ℤ) ℕ) → length bs ≤ 80 → None ≡ foreign_at 1 bs → r ≡ parsed bs → spelt bs r ≡ reading bs
 clean_text bs r h e q =
-    sym (cond-false (ltb 80 (length bs)) (Err (flaw TooLong 81)) (clean bs (foreign_at 1 bs)) (le-ltb 80 (length bs) h) ∙ ap (clean bs) (sym e) ∙ ap (spelt bs) (sym q))
+    sym (cond-false (ltb 80 (length bs)) (Err (flaw_at TooLong 81)) (clean bs (foreign_at 1 bs)) (le-ltb 80 (length bs) h) ∙ ap (clean bs) (sym e) ∙ ap (spelt bs) (sym q))

@@ -1,7 +1,7 @@
 -- What is answered to a text: a line, or the first refusal that fits. Assumes nothing.
 use Rattle.std.specs.Prelude.{◌≡◌, ℕ, ◌+◌, ◌<◌, ◌≤◌, cond, ◌⊎◌, List, [], ◌∷◌, ◌++◌, map, length, ℤ, Some, None, Ok, Err, Option, Result, ◌≢◌, nat_lt}
 use Rattle.fault.specs.declared.Flaw.{Flaw}
-use Rattle.fault.specs.declared.Kind.{Kind}
+use Rattle.fault.specs.Table.{flaw_at}
 use Rattle.fault.specs.declared.Kind.TheVariants.{TooLong, ForeignByte, NotALine, OutOfRange}
 use Rattle.line.specs.declared.syntax.Line.{Line}
 use Rattle.line.specs.Classes.{foreign_at}
@@ -11,27 +11,24 @@ use Rattle.line.specs.Ranges.{beyond_at}
 use Rattle.line.specs.States.{parsed}
 use Rattle.line.specs.Words.{Text}
 
-abbrev pub flaw : Kind → ℕ → Flaw
-flaw k c = record { kind = k; column = c }
-
 -- a text that has the shape of a line, by the column of the first number out of range
 abbrev pub ranged : Line ℤ → Option ℕ → Result (Line ℤ) Flaw
 ranged x None = Ok x
-ranged x (Some c) = Err (flaw OutOfRange c)
+ranged x (Some c) = Err (flaw_at OutOfRange c)
 
 -- a clean text, by what its tokens spell or where they stop to begin a line
 abbrev pub spelt : Text → Result (Line ℤ) ℕ → Result (Line ℤ) Flaw
-spelt bs (Err c) = Err (flaw NotALine c)
+spelt bs (Err c) = Err (flaw_at NotALine c)
 spelt bs (Ok x) = ranged x (beyond_at (pieces 1 bs))
 
 -- a text of at most 80 bytes, by the column of the first foreign byte
 abbrev pub clean : Text → Option ℕ → Result (Line ℤ) Flaw
-clean bs (Some c) = Err (flaw ForeignByte c)
+clean bs (Some c) = Err (flaw_at ForeignByte c)
 clean bs None = spelt bs (parsed bs)
 
 -- too long, then a foreign byte, then not a line, then a number out of range, then a line
 abbrev pub reading : Text → Result (Line ℤ) Flaw
-reading bs = cond (nat_lt 80 (length bs)) (Err (flaw TooLong 81)) (clean bs (foreign_at 1 bs))
+reading bs = cond (nat_lt 80 (length bs)) (Err (flaw_at TooLong 81)) (clean bs (foreign_at 1 bs))
 
 -- The same in the grammar's own words.
 
@@ -77,10 +74,10 @@ pub record Shaped (ts : List Text) : Type 0 where
 
 -- what each refusal says of the text
 pub data Refused (bs : Text) (f : Flaw) : Type 0 where
-  too_long : f ≡ flaw TooLong 81 → 80 < length bs → Refused bs f
-  foreign : (c : ℕ) → f ≡ flaw ForeignByte c → length bs ≤ 80 → foreign_at 1 bs ≡ Some c → Refused bs f
-  not_a_line : (c : ℕ) → f ≡ flaw NotALine c → Clean bs → AtToken (pieces 1 bs) c ⊎ AtEnd (1 + length bs) (pieces 1 bs) c → Refused bs f
-  out_of_range : (c : ℕ) → f ≡ flaw OutOfRange c → Clean bs → Shaped (tokens bs) → beyond_at (pieces 1 bs) ≡ Some c → Refused bs f
+  too_long : f ≡ flaw_at TooLong 81 → 80 < length bs → Refused bs f
+  foreign : (c : ℕ) → f ≡ flaw_at ForeignByte c → length bs ≤ 80 → foreign_at 1 bs ≡ Some c → Refused bs f
+  not_a_line : (c : ℕ) → f ≡ flaw_at NotALine c → Clean bs → AtToken (pieces 1 bs) c ⊎ AtEnd (1 + length bs) (pieces 1 bs) c → Refused bs f
+  out_of_range : (c : ℕ) → f ≡ flaw_at OutOfRange c → Clean bs → Shaped (tokens bs) → beyond_at (pieces 1 bs) ≡ Some c → Refused bs f
 
 -- the line is one whose numbers are in range, and whose tokens these are
 abbrev pub Spells : Text → Line ℤ → Type 0

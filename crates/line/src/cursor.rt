@@ -18,7 +18,8 @@ pub(crate) struct Cursor<'a> {
     ghost ends: { column + length rest.now < 2 ^ 64 },
 }
 
-// How many spaces lead.
+// How many spaces lead. No function for both this and `run`, which are std's methods already: one with
+// the test as a parameter would be longer than both, by the clauses on the test.
 fn spaces(s: &[u8]) -> usize
     ensures within { result ≤ length s.now }
     ensures value { result ≡ blanks s.now }

@@ -124,12 +124,9 @@ fn copy_out(text: &[u8], out: &mut [u8]) -> Result<usize, Flaw>
 {
     let size = text.len();
     if out.len() < size {
-        return Err(Flaw {
-            kind: Kind::ShortBuffer,
-            column: 0,
-        });
+        return Err(Kind::ShortBuffer.at(0));
     }
-    out[0..size].copy_from_slice(text);
+    out[..size].copy_from_slice(text);
     Ok(size)
 }
 

@@ -17,15 +17,9 @@ fn read_clean(text: &[u8]) -> Result<Line, Flaw>
     ensures value { result ≡ reading text.now }
     ensures grammar { Reads text.now result }
 {
-    let wide = parse(text).map_err(|column| Flaw {
-        kind: Kind::NotALine,
-        column,
-    })?;
+    let wide = parse(text).map_err(|column| Kind::NotALine.at(column))?;
     if let Some(column) = first_beyond(text) {
-        return Err(Flaw {
-            kind: Kind::OutOfRange,
-            column,
-        });
+        return Err(Kind::OutOfRange.at(column));
     }
     let Ok(line) = Line::try_from(wide) else {
         unreachable()
@@ -38,18 +32,12 @@ fn check_clean(text: &[u8]) -> Result<(), Flaw>
     ensures { Sorts text.now result }
 {
     if text.len() > MOST {
-        return Err(Flaw {
-            kind: Kind::TooLong,
-            column: MOST + 1,
-        });
+        return Err(Kind::TooLong.at(MOST + 1));
     }
-    match first_foreign(text) {
-        Some(column) => Err(Flaw {
-            kind: Kind::ForeignByte,
-            column,
-        }),
-        None => Ok(()),
+    if let Some(column) = first_foreign(text) {
+        return Err(Kind::ForeignByte.at(column));
     }
+    Ok(())
 }
 
 // The line that the text spells, or the first flaw that fits.

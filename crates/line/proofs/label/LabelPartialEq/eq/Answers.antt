@@ -4,7 +4,7 @@ use Rattle.std.proofs.lemmas.Slice.Eq.{slice_eq-Decides, bytes_eq-Decides}
 use Rattle.std.proofs.lemmas.Bool.Decides.{same_from_decides, Decides-eqb}
 use Rattle.line.specs.Words.{same_label}
 use Rattle.line.specs.Tokens.{label_decides}
-use Rattle.line.proofs.label.sameness.LabelPartialEq.eq.Goals as goal
+use Rattle.line.proofs.label.LabelPartialEq.eq.Goals as goal
 
 pub returns : goal.returns
 returns c =
