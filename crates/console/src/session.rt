@@ -32,6 +32,7 @@ fn tell(rt: &impl Print, edit: Edit<'_>, answer: Result<usize, Fault>) -> io::Re
 }
 
 fn list_line(rt: &impl Print, draft: &Draft, number: usize) -> io::Result<()> {
+    // An array and a length: it is a rule of the project that a line is printed to a buffer of the caller's.
     let mut buffer = [0u8; LONGEST];
     match draft.print(number, &mut buffer) {
         Ok(size) => println!(rt; "{number:>2}  {}", Shown(&buffer[..size])),

@@ -11,6 +11,7 @@ use crate::flow_graph::{Graph, MOST_NODES};
 use arrayvec::ArrayVec;
 
 // Each node's successors and predecessors are found without a search.
+// The facts stand here for both lists, and not in `Adjacency`, since a list alone knows neither the count nor the other.
 #[derive(Clone, Copy)]
 pub struct EdgeGraph {
     count: usize,

@@ -3,7 +3,8 @@ ghost use Rattle.std.specs.Prelude.{◌≡◌};
 ghost use Rattle.std.specs.List.{slice_get};
 ghost use Rattle.graph.specs.Shapes.{Shape, Sized, SameEdges};
 
-// The most nodes that a graph can have.
+// The most nodes that a graph can have. That a number is below it is said in clauses and by no type of its
+// own, which would be taken apart at each index and each count.
 pub const MOST_NODES: usize = 288;
 
 // Nodes are numbered from 0 on. A node's successors and predecessors stand in lists, one for each

@@ -10,6 +10,7 @@ use std::marker::Model;
 pub struct NoRoom;
 
 // The elements stand in the order of their numbers, from 0 on, in the first places of a lent slice.
+// A slice with a length beside it and no `Vec`, since a list has to take no memory of its own.
 #[derive(Drop)]
 pub struct Numbering<'a, K> {
     slots: &'a mut [K],
