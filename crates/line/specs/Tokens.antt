@@ -1,9 +1,8 @@
 -- What a token's spelling says of it, and back. Assumes nothing.
-use Rattle.std.specs.Prelude.{◌≡◌, ℕ, ◌-◌, ◌≤◌, Bool, true, false, cond, ◌&&◌, [], ◌∷◌, ◌++◌, length, drop, ℤ, Some, None, codes, Decides, Option, ◌==◌, ◌≢◌, nat_le, slice_index, slice_index_or, refl}
+use Rattle.std.specs.Prelude.{◌≡◌, ℕ, ◌≤◌, Bool, true, false, cond, ◌&&◌, [], ◌∷◌, ◌++◌, length, drop, ℤ, Some, None, codes, Decides, Option, ◌==◌, ◌≢◌, nat_le, slice_index, slice_index_or, refl}
 use Rattle.std.proofs.Common.{sym, ap, subst, ◌∙◌, ⊎_elim, arith}
 use mathlib.Core.HLevel.{is_prop→PathP}
 use Rattle.std.proofs.Math.Bool.{Bool-set}
-use Rattle.std.proofs.Math.Nat.{sub-zero}
 use Rattle.std.specs.Char.{is_ascii_lowercase}
 use Rattle.std.specs.Fmt.{signed_decimal}
 use Rattle.std.specs.Str.{bytes_eq}
@@ -123,8 +122,8 @@ word_from t h k e =
     (and_from (nat_le (length t) 8) (only_letters t) (le-leb (length t) 8 k) (sym e))
 
 -- a copy of t over the start of eight zeros
-pub over_zeros : (t s : Text) → s ≡ t → s ++ drop (length t - 0) zeros ≡ padded t
-over_zeros t s e = ap (λ l. l ++ drop (length t - 0) zeros) e ∙ ap (λ n. t ++ drop n zeros) (sub-zero (length t))
+pub over_zeros : (t s : Text) → s ≡ t → s ++ drop (length t) zeros ≡ padded t
+over_zeros t s e = ap (λ l. l ++ drop (length t) zeros) e
 
 module _ (t : Text) (l : Label) (w : is_word t ≡ true) (e : l.letters ≡ padded t) (s : l.size ≡ length t) where
   made_by : (b : Bool) (q : is_word t ≡ b) → Some l ≡ label_by t b q

@@ -129,7 +129,7 @@ fn copy_out(text: &[u8], out: &mut [u8]) -> Result<usize, Flaw>
             column: 0,
         });
     }
-    out[0..size].copy_from_slice(text);
+    out[..size].copy_from_slice(text);
     Ok(size)
 }
 

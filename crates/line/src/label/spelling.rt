@@ -18,11 +18,11 @@ impl Label {
         ensures { result ≡ label_of token.now }
     {
         let size = token.len();
-        if size == 0 || size > 8 || !all_letters(token) {
+        if !(1..=8).contains(&size) || !all_letters(token) {
             return None;
         }
         let mut letters = [0u8; 8];
-        letters[0..size].copy_from_slice(token);
+        letters[..size].copy_from_slice(token);
         Some(Label { letters, size })
     }
 
@@ -31,6 +31,6 @@ impl Label {
         ensures text { result.now ≡ label_text self.now }
         ensures few { length result.now ≤ 8 }
     {
-        &self.letters[0..self.size]
+        &self.letters[..self.size]
     }
 }
