@@ -1,6 +1,6 @@
 // The tokens of a line, one after the other: each is a part of the line, with its column.
 ghost use Rattle.std.specs.Prelude.{◌≡◌, ℕ, ◌+◌, ◌^◌, ◌<◌, ◌≤◌, length};
-ghost use Rattle.line.specs.Pieces.{blanks, inked, Runs};
+ghost use Rattle.line.specs.Pieces.{CountsLeading, Runs};
 
 use crate::class::is_space;
 
@@ -18,21 +18,13 @@ pub(crate) struct Cursor<'a> {
     ghost ends: { column + length rest.now < 2 ^ 64 },
 }
 
-// How many spaces lead. No function for both this and `run`, which are std's methods already: one with
-// the test as a parameter would be longer than both, by the clauses on the test.
-fn spaces(s: &[u8]) -> usize
+// How many bytes lead that pass the test.
+fn leading<F: Fn(u8) -> bool>(s: &[u8], test: F) -> usize
+    requires { F.IsAlwaysCallable test }
     ensures within { result ≤ length s.now }
-    ensures value { result ≡ blanks s.now }
+    ensures value { CountsLeading (F.post test) s.now result }
 {
-    s.iter().take_while(|b| is_space(**b)).count()
-}
-
-// How many bytes lead that are no spaces.
-fn run(s: &[u8]) -> usize
-    ensures within { result ≤ length s.now }
-    ensures value { result ≡ inked s.now }
-{
-    s.iter().take_while(|b| !is_space(**b)).count()
+    s.iter().take_while(|b| test(**b)).count()
 }
 
 impl<'a> Cursor<'a> {
@@ -63,10 +55,10 @@ impl<'a> Iterator for Cursor<'a> {
 
     // The next token, or none where only spaces are left.
     fn next(&mut self) -> Option<Token<'a>> {
-        let start = spaces(self.rest);
+        let start = leading(self.rest, is_space);
         let rest = &self.rest[start..];
         let column = self.column + start;
-        let (text, after) = rest.split_at(run(rest));
+        let (text, after) = rest.split_at(leading(rest, |b| !is_space(b)));
         *self = Cursor {
             rest: after,
             column: column + text.len(),

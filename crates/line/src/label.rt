@@ -26,7 +26,7 @@ impl Label {
         ensures { result ≡ label_of token.now }
     {
         let size = token.len();
-        if size == 0 || size > 8 || !all_letters(token) {
+        if !(1..=8).contains(&size) || !all_letters(token) {
             return None;
         }
         let mut letters = [0u8; 8];

@@ -57,13 +57,13 @@ fn take<T: Drop, F: FnOnce(&[u8]) -> Option<T>>(cursor: &mut Cursor<'_>, test: F
 fn take_label(cursor: &mut Cursor<'_>) -> Result<Label, Stop>
     ensures { Took label_of (ahead cursor.old) result (ahead cursor.new) }
 {
-    take(cursor, |text| Label::from_token(text))
+    take(cursor, Label::from_token)
 }
 
 fn take_operand(cursor: &mut Cursor<'_>) -> Result<Operand<i64>, Stop>
     ensures { Took operand_spelt (ahead cursor.old) result (ahead cursor.new) }
 {
-    take(cursor, |text| operand_of(text))
+    take(cursor, operand_of)
 }
 
 // A token that is spelt just so.

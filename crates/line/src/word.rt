@@ -74,8 +74,7 @@ pub(crate) fn operator_of(token: &[u8]) -> Option<Operator>
 pub(crate) fn operand_of(token: &[u8]) -> Option<Operand<i64>>
     ensures { result ≡ operand_spelt token.now }
 {
-    if let Some(v) = Variable::from_token(token) {
-        return Some(Operand::Var(v));
-    }
-    Some(Operand::Num(wide_value(token)?))
+    Variable::from_token(token)
+        .map(Operand::Var)
+        .or_else(|| wide_value(token).map(Operand::Num))
 }
