@@ -29,7 +29,8 @@ pub struct EdgeGraph {
     ghost same: { (m n : ℕ) → times n (row_values_below count outgoing m) ≡ times m (row_values_below count incoming n) },
 }
 
-// Whether every edge joins nodes below the count.
+// Whether every edge joins nodes below the count. The two stay two parameters, as in `EdgeGraph::new`: a struct
+// of them would be taken apart in each function.
 fn all_within(count: usize, edges: &[Edge]) -> bool
     ensures { IsTrue result ↔ All (λ edge. (edge.tail < count) × (edge.head < count)) edges.now }
 {

@@ -296,6 +296,8 @@ pub(crate) fn class_of(byte: u8) -> Class
     table[byte as usize]
 }
 
+// Two functions, of one comparison each, since each promises a word of the rules: a function of the class
+// would promise less.
 pub(crate) fn is_space(byte: u8) -> bool
     ensures { result ≡ is_blank byte }
 {

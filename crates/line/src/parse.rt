@@ -145,10 +145,10 @@ fn take_line(cursor: &mut Cursor<'_>) -> Result<Line<i64>, Stop>
     let label = take_label(cursor)?;
     let head = take_statement(cursor)?;
     let statement = take_successors(cursor, head)?;
-    match cursor.next() {
-        None => Ok(Line { label, statement }),
-        Some(token) => Err(Stop::At(token.column)),
+    if let Some(token) = cursor.next() {
+        return Err(Stop::At(token.column));
     }
+    Ok(Line { label, statement })
 }
 
 // The line that the tokens spell, its numbers not yet held to 32 bits, or the column of the first

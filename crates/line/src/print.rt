@@ -12,7 +12,9 @@ use itoa::Buffer;
 // The most bytes that a printed line can have.
 pub const LONGEST: usize = 51;
 
-// A text that is written from its start on.
+// A text that is written from its start on. No `Display` writes it: std's contract of `write!` does not say
+// when it succeeds, so `print` could not promise that it does. The room that each function below asks for is
+// its own, so no one invariant of a sheet could say it.
 type Sheet = ArrayVec<u8, LONGEST>;
 
 fn put(sheet: &mut Sheet, text: &[u8])

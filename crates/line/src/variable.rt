@@ -23,6 +23,7 @@ impl Variable {
         }
     }
 
+    // No `From`, which would not say which byte of a variable it gives.
     pub fn letter(self) -> u8
         ensures { result ≡ self.letter }
     {

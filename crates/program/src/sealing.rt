@@ -23,6 +23,7 @@ use reach::{first_stuck, first_unreached};
 
 impl Labelled<'_, '_> {
     // The lines as a graph in which the first line reaches every line, and every line the one that halts.
+    // That no fault fits that was checked before is said in clauses: at each step it is another fact.
     fn connect(&self) -> Result<EdgeGraph, Fault>
         requires { Clean asks self.now.lines.now 10 }
         ensures { MatchResult result (λ g. (shape_in g ≡ graph_of asks self.now.lines.now) × Clean asks self.now.lines.now 14) (Refused self.now.lines.now) }
