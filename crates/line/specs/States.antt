@@ -136,7 +136,7 @@ parsed bs = placed (1 + length bs) (run start (pieces 1 bs))
 -- the first token ahead
 abbrev pub Gave : List Piece → Result Token Stop → List Piece → Type 0
 Gave [] (Ok t) after = ⊥
-Gave [] (Err s) after = s ≡ TooEarly
+Gave [] (Err s) after = (s ≡ TooEarly) × (after ≡ [])
 Gave (p ∷ ps) (Ok t) after = (p ≡ piece_of t) × (after ≡ ps)
 Gave (p ∷ ps) (Err s) after = ⊥
 

@@ -21,7 +21,7 @@ use Rattle.line.specs.declared.word.Keyword.{Keyword}
 use Rattle.line.specs.declared.word.Keyword.TheVariants.{Pass, Halt, If, Get, Put}
 use Rattle.line.specs.Grammar.{spell_operand, spell_operator, EachOperand}
 use Rattle.line.specs.Names.{only_letters, is_word, is_name, padded, zeros, kept}
-use Rattle.line.specs.Words.{Text, exactly, keyword_of, sign_of, operator_spelt, label_text, same_label, label_by, label_of, variable_text, variable_by, variable_of, or_number, operand_spelt}
+use Rattle.line.specs.Words.{Text, exactly, keyword_of, sign_of, double_of, operator_spelt, label_text, same_label, label_by, label_of, variable_text, variable_by, variable_of, or_number, operand_spelt}
 use Rattle.line.specs.Spelt.{past}
 
 is_text : (t w : Text) → bytes_eq t w ≡ true → t ≡ w
@@ -83,6 +83,11 @@ op_back Rem = refl
 op_back Less = refl
 op_back Equal = refl
 op_back And = refl
+
+pub longer : (t : Text) → (length t ≢ 1) → double_of t ≡ operator_spelt t
+longer [] h = refl
+longer (c ∷ []) h = absurd (h refl)
+longer (c ∷ d ∷ t) h = refl
 
 -- labels: what is kept of one determines it
 pub label_ext : (a b : Label) → a.letters ≡ b.letters → a.size ≡ b.size → a ≡ b

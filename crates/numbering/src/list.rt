@@ -1,5 +1,5 @@
 // A list that gives each different element the number of its first appearance.
-ghost use Rattle.std.specs.Prelude.{◌≡◌, [], length, position};
+ghost use Rattle.std.specs.Prelude.{◌≡◌, ◌≤◌, [], length, position};
 ghost use Rattle.numbering.specs.Lists.{Answered, ByAppearance};
 ghost use Rattle.numbering.specs.Numbers.{number_in, entered};
 
@@ -46,7 +46,8 @@ impl<'a, K: Eq + Copy> Numbering<'a, K> {
 
     // The elements in the order of their numbers.
     pub fn items(&self) -> &[K]
-        ensures { result.now ≡ self.now.items }
+        ensures items { result.now ≡ self.now.items }
+        ensures few { length result.now ≤ self.now.room }
     {
         &self.slots[..self.len]
     }
@@ -64,6 +65,7 @@ impl<'a, K: Eq + Copy> Numbering<'a, K> {
         ensures value { Answered (entered K.PartialEq.eq self.old.room element self.old.items) result self.new.items }
         ensures appearance { ByAppearance K.PartialEq.eq self.old.room element self.old.items result self.new.items }
         ensures room { self.new.room ≡ self.old.room }
+        ensures few { length self.new.items ≤ self.new.room }
     {
         if let Some(number) = self.find(&element) {
             return Ok(number);

@@ -1,6 +1,6 @@
 -- Expressions are the same if their parts are equal. Assumes nothing.
-use Rattle.std.specs.Prelude.{◌≡◌, ℕ, ◌&&◌, ℤ, Some, Decides}
-use Rattle.std.proofs.Common.{sym, ap, ◌∙◌, arith}
+use Rattle.std.specs.Prelude.{◌≡◌, ℕ, Bool, true, ◌&&◌, ℤ, Some, Decides}
+use Rattle.std.proofs.Common.{sym, ap, ap₂, ◌∙◌, arith}
 use Rattle.std.specs.Cmp.{decided}
 use Rattle.std.specs.Str.{bytes_eq}
 use Rattle.std.proofs.lemmas.Bool.Decides.{Decides-int_eq}
@@ -48,3 +48,8 @@ expression_decides a b = (
 
 pub expression_laws : Laws same_expression
 expression_laws = equivalence_laws (decided same_expression expression_decides)
+
+-- the parts compared one after another
+pub by_parts : (a b : Expression) → a.operator ≡ b.operator → operands_same a.first b.first ≡ true → same_expression a b ≡ operands_same a.second b.second
+by_parts a b o f =
+    ap₂ (λ (x y : Bool). x && (y && operands_same a.second b.second)) ((operator_decides a.operator b.operator).1 o) f
