@@ -107,11 +107,7 @@ impl Kind {
     pub fn on(self, line: usize) -> Fault
         ensures { result ≡ plain_fault self line }
     {
-        Fault {
-            kind: self,
-            line,
-            column: 0,
-        }
+        self.at(0).on(line)
     }
 }
 

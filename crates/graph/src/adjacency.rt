@@ -22,7 +22,7 @@ pub(crate) struct Adjacency {
     ghost inside: { (n : ℕ) → n ≤ MOST_NODES → slice_index starts n ≤ MOST_EDGES },
 }
 
-// The heads of the edges from n come behind those that are there.
+// The heads of the edges from n come behind those that are there. By `push`: `extend` answers a Result.
 fn push_heads(edges: &[Edge], n: usize, heads: &mut ArrayVec<usize, MOST_EDGES>)
     requires { array_vec_len heads.old + length (heads_from n edges.now) ≤ MOST_EDGES }
     ensures { heads.new.items ≡ heads.old.items ++ heads_from n edges.now }
@@ -35,7 +35,7 @@ fn push_heads(edges: &[Edge], n: usize, heads: &mut ArrayVec<usize, MOST_EDGES>)
 }
 
 impl Adjacency {
-    ghost use Rattle.graph.specs.Rows.{row};
+    ghost use Rattle.graph.specs.Rows.{row, row_values_below};
 
     // The heads of the edges, by their tails.
     pub(crate) fn new(count: usize, edges: &[Edge]) -> Adjacency
@@ -62,5 +62,13 @@ impl Adjacency {
         ensures { result.now ≡ row self.now n }
     {
         &self.ends[self.starts[n]..self.starts[n + 1]]
+    }
+
+    // The neighbours of node n, or none where it is no node below the count.
+    pub(crate) fn row_below(&self, count: usize, n: usize) -> &[usize]
+        requires { count ≤ MOST_NODES }
+        ensures { result.now ≡ row_values_below count self.now n }
+    {
+        if n < count { self.row(n) } else { &[] }
     }
 }

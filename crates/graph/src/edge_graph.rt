@@ -39,7 +39,7 @@ fn all_within(count: usize, edges: &[Edge]) -> bool
         .all(|edge| edge.tail < count && edge.head < count)
 }
 
-// The edges turned round.
+// The edges turned round. By `push`: `extend` answers a Result.
 fn turned_round(edges: &[Edge]) -> ArrayVec<Edge, MOST_EDGES>
     requires { length edges.now ≤ MOST_EDGES }
     ensures { result.items ≡ map turned_edge edges.now }
@@ -126,18 +126,10 @@ impl Graph for EdgeGraph {
     }
 
     fn successors(&self, n: usize) -> &[usize] {
-        if n < self.count {
-            self.outgoing.row(n)
-        } else {
-            &[]
-        }
+        self.outgoing.row_below(self.count, n)
     }
 
     fn predecessors(&self, n: usize) -> &[usize] {
-        if n < self.count {
-            self.incoming.row(n)
-        } else {
-            &[]
-        }
+        self.incoming.row_below(self.count, n)
     }
 }
