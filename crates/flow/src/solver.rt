@@ -30,6 +30,7 @@ impl<G: Graph, P: Problem> Equations<'_, G, P> {
     {
         // As a slice, whose size in memory the proof knows.
         let facts = facts.as_slice();
+        // A loop and no `fold`: in its closure it stayed open that every node of the list has a fact.
         let mut all = <P::Fact as Fact>::top();
         for &m in self.graph.predecessors(n) {
             all = all.meet(self.problem.step(m, facts[m]));

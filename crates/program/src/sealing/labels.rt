@@ -16,10 +16,7 @@ pub(crate) fn first_repeated(lines: &[Line], labels: &mut Numbering<'_, Label>) 
     ensures labels { result ≡ None → labels.new.items ≡ labels_of lines.now }
 {
     for (number, line) in lines.iter().enumerate() {
-        let Ok(given) = labels.number(line.label) else {
-            return Some(number);
-        };
-        if given != number {
+        if labels.number(line.label) != Ok(number) {
             return Some(number);
         }
     }
