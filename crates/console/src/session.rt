@@ -44,6 +44,7 @@ fn list(rt: &impl Print, draft: &Draft) -> io::Result<()> {
     if draft.len() == 0 {
         return rt.println("no lines");
     }
+    // By number, since the draft's call prints a line by its number.
     for number in 1..=draft.len() {
         list_line(rt, draft, number)?;
     }

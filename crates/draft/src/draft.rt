@@ -71,7 +71,8 @@ impl Draft {
         Ok(number)
     }
 
-    // Puts the text in the place of the line of that number, and answers the number.
+    // Puts the text in the place of the line of that number, and answers the number. The number is refused before
+    // the text is read, so the line is put in by its index after both, and no `&mut` to it is held meanwhile.
     #[tactic(auto, using(crate::proofs::Numbered::absent_from_none))]
     pub fn mend(&mut self, number: usize, text: &[u8]) -> Result<usize, Fault>
         ensures { Answered (mended number text.now self.old) result self.new }

@@ -1,10 +1,10 @@
 -- What the solver keeps from visit to visit. Assumes nothing.
-use Rattle.std.proofs.Common.{◌≡◌, ℕ, zero, suc, ◌+◌, ◌-◌, ◌*◌, ◌<◌, ◌≤◌, Bool, true, false, cond, eqb, List, [], ◌∷◌, length, get_or, set, replicate, sym, refl, ap, ◌∙◌, subst, arith, get_or-set_other, get_or-set_same, eqb-true}
+use Rattle.std.proofs.Common.{◌≡◌, ℕ, zero, suc, ◌+◌, ◌-◌, ◌*◌, ◌<◌, ◌≤◌, Bool, true, false, cond, eqb, List, ◌∷◌, length, get_or, set, replicate, sym, refl, ap, ◌∙◌, subst, arith, get_or-set_other, get_or-set_same, eqb-true}
 use borrow.Author.Tests.{eqb-false}
 use Rattle.std.proofs.lemmas.List.{length-replicate}
 use Rattle.graph.specs.Shapes.{Shape, Sized, SameEdges, times, AllBelow}
 use Rattle.facts.specs.Order.{Below, Fell}
-use Rattle.flow.specs.Equations.{inflow, Safe, Solution}
+use Rattle.flow.specs.Equations.{inflow, Safe}
 use Rattle.flow.specs.Rings.{joined_all}
 use Rattle.flow.proofs.Meets.{Laws, below_refl, below_trans, below_top, inflow_mono, inflow_other}
 use Rattle.flow.specs.Falls.{Paid, paid_turn}
@@ -29,14 +29,6 @@ gone n m ws ne z = by (eqb n m) refl
 
 module _ {F : Type 0} {s : Shape} {top : F} {meet : F → F → F} (laws : Laws top meet) (sized : Sized s) (edges : SameEdges s)
     {given : F} {step : ℕ → F → F} (mono : (n : ℕ) (a b : F) → Below meet a b → Below meet (step n a) (step n b)) where
-  pub done : {f : ℕ → F} → Going s top meet given step f [] → Solution s top meet given step f
-  done i = record {
-    entry_holds = i.entry_holds;
-    elsewhere = λ n l ne. i.settled n l ne refl;
-    greatest = i.greatest;
-    beyond = i.beyond;
-  }
-
   pub begin : (f : ℕ → F) (ws : List ℕ) → f s.entry ≡ given → ((n : ℕ) → (n ≡ s.entry → ⊥) → f n ≡ top) → AllBelow s.count ws → ((n : ℕ) → n < s.count → 0 < times n ws)
       → Going s top meet given step f ws
   begin f ws e others inside all = record {
@@ -52,23 +44,6 @@ module _ {F : Type 0} {s : Shape} {top : F} {meet : F → F → F} (laws : Laws 
       high h safe n true q = let i = eqb-true n s.entry q in subst (λ (m : ℕ). Below meet (h m) (f m)) (sym i) (subst (Below meet (h s.entry)) (sym e) safe.entry_holds)
       high h safe n false q = subst (Below meet (h n)) (sym (others n (eqb-false n s.entry q))) (below_top laws (h n))
 
-  -- n is the entry, or settled
-  pub stay : (f : ℕ → F) (n : ℕ) (ws : List ℕ) → Going s top meet given step f (n ∷ ws) → ((n ≡ s.entry → ⊥) → f n ≡ inflow top meet step f (s.preds n)) → Going s top meet given step f ws
-  stay f n ws i e = record {
-    entry_holds = i.entry_holds;
-    settled = λ m l ne z. by m l ne z (eqb m n) refl;
-    falling = i.falling;
-    greatest = i.greatest;
-    inside = i.inside.1;
-    beyond = i.beyond;
-  }
-    where
-      by : (m : ℕ) → m < s.count → (m ≡ s.entry → ⊥) → times m ws ≡ 0 → (b : Bool) → eqb m n ≡ b → f m ≡ inflow top meet step f (s.preds m)
-      by m l ne z true q =
-          let k = eqb-true m n q in
-          subst (λ (j : ℕ). f j ≡ inflow top meet step f (s.preds j)) (sym k) (e (λ x. ne (k ∙ x)))
-      by m l ne z false q = i.settled m l ne (gone n m ws (eqb-false m n q) z)
-
   module _ (f f' : ℕ → F) (n : ℕ) (ws : List ℕ) (i : Going s top meet given step f (n ∷ ws)) (ne : n ≡ s.entry → ⊥)
       (here : f' n ≡ inflow top meet step f (s.preds n)) (there : (m : ℕ) → (m ≡ n → ⊥) → f' m ≡ f m) where
     inside_n : n < s.count
@@ -83,9 +58,6 @@ module _ {F : Type 0} {s : Shape} {top : F} {meet : F → F → F} (laws : Laws 
 
     flow_lower : (m : ℕ) → Below meet (inflow top meet step f' (s.preds m)) (inflow top meet step f (s.preds m))
     flow_lower m = inflow_mono laws step mono s.count f' f lower (s.preds m) (sized.preds_in m)
-
-    new_waiting : List ℕ
-    new_waiting = joined_all (s.succs n) ws
 
     -- who does not wait now did not before, and has no edge from n
     apart : (m : ℕ) → times m (joined_all (s.succs n) ws) ≡ 0 → (times m ws ≡ 0) × (times n (s.preds m) ≡ 0)

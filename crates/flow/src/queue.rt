@@ -36,7 +36,8 @@ impl Queue {
         }
     }
 
-    // Every node below the count waits.
+    // Every node below the count waits. `few`, here and below, says the invariant again to callers, who see the
+    // list alone.
     pub(crate) fn of_all(count: usize) -> Queue
         requires { count ≤ MOST_NODES }
         ensures inside { AllBelow count result }

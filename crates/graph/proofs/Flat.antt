@@ -14,9 +14,6 @@ flat (suc n) es = flat n es ++ heads_from n es
 flat_more : (n : ℕ) (es : List Edge) → flat (n + 1) es ≡ flat n es ++ heads_from n es
 flat_more n es = ap (λ (k : ℕ). flat k es) (add-one n)
 
-pub flat_grown : (n : ℕ) (es : List Edge) {l m : List ℕ} → l ≡ flat n es → m ≡ l ++ heads_from n es → m ≡ flat (n + 1) es
-flat_grown n es p q = q ∙ ap (λ (l : List ℕ). l ++ heads_from n es) p ∙ sym (flat_more n es)
-
 pub length_more : (n : ℕ) (es : List Edge) → length (flat (n + 1) es) ≡ length (flat n es) + length (heads_from n es)
 length_more n es = ap length (flat_more n es) ∙ length-append (flat n es) (heads_from n es)
 

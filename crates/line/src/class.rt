@@ -296,8 +296,8 @@ pub(crate) fn class_of(byte: u8) -> Class
     table[byte as usize]
 }
 
-// Two functions, of one comparison each, since each promises a word of the rules: a function of the class
-// would promise less.
+// Two functions, of one comparison each, since each promises a word of the rules, where a function of the class
+// would promise less. By the table, and not by std: that is a rule of the project.
 pub(crate) fn is_space(byte: u8) -> bool
     ensures { result ≡ is_blank byte }
 {

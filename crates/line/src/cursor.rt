@@ -10,7 +10,8 @@ pub(crate) struct Token<'a> {
     pub(crate) column: usize,
 }
 
-// What is left of a line, and the column of its first byte.
+// What is left of a line, and the column of its first byte. No model of the tokens ahead: with a lifetime a type
+// with a model is not `Copy`, and the reader of `v = o` goes on with a copy where no operator follows.
 #[derive(Clone, Copy)]
 pub(crate) struct Cursor<'a> {
     rest: &'a [u8],

@@ -12,7 +12,8 @@ use crate::syntax::{Action, Line, Operand, Statement};
 use crate::variable::Variable;
 use crate::word::{Keyword, is_exactly, keyword_of, operand_of, operator_of};
 
-// A statement whose successors are still to be read.
+// A statement whose successors are still to be read. It is a rule of the project that the reader of statements
+// hands the rest of the line on to the reader of successors.
 #[derive(Clone, Copy)]
 pub(crate) enum Head {
     Act(Action<i64>),
@@ -20,7 +21,8 @@ pub(crate) enum Head {
     Halt,
 }
 
-// Where the tokens stop to begin a line: at the one in that column, or too early, at the end.
+// Where the tokens stop to begin a line: at the one in that column, or too early, at the end. An error with its
+// own words and no `Option<usize>`, of which a reader of `Err(None)` would not know what it says.
 #[derive(Clone, Copy, PartialEq, Eq, Debug)]
 pub(crate) enum Stop {
     At(usize),

@@ -36,7 +36,8 @@ pub(crate) fn keyword_of(token: &[u8]) -> Option<Keyword>
     }
 }
 
-// The operator of one character.
+// The operator of one character. It is a rule of the project that operators are told by cases of characters
+// and texts.
 fn operator_of_sign(sign: char) -> Option<Operator>
     ensures { result ≡ sign_of sign }
 {

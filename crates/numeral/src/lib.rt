@@ -73,7 +73,7 @@ pub fn wide_value(text: &[u8]) -> Option<i64>
     is_number(text).then(|| spelt_number(text))
 }
 
-// The same number, where 32 signed bits hold it.
+// The same number, where 32 signed bits hold it: std's conversion, with the rule's word in its contract.
 pub fn narrow(number: i64) -> Option<i32>
     ensures { result ≡ narrow_of number }
 {

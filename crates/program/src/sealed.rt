@@ -16,7 +16,7 @@ use std::alloc::{AllocError, Global};
 // The most expressions that a program can have.
 pub const MOST_EXPRESSIONS: usize = 64;
 
-// What stands in the unused places of a table of expressions.
+// What stands in the unused places of a table of expressions, for the call that seals, which is still to come.
 const FILLER: Expression = Expression {
     operator: Operator::Add,
     first: Operand::Num(0),

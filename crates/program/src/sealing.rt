@@ -44,7 +44,8 @@ impl Labelled<'_, '_> {
     }
 }
 
-// The lines as a graph, or the first refusal up to that of a dead end.
+// The lines as a graph, or the first refusal up to that of a dead end. The call that seals, which is still to
+// come, makes this check and then `first_crowding`.
 pub(crate) fn check_lines(lines: &[Line]) -> Result<EdgeGraph, Fault>
     requires { length lines.now ≤ 96 }
     ensures { MatchResult result (λ g. (shape_in g ≡ graph_of asks lines.now) × Clean asks lines.now 14) (Refused lines.now) }

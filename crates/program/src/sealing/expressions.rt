@@ -9,7 +9,7 @@ use crate::expression::Expression;
 use line::Line;
 use numbering::Numbering;
 
-// Numbers the expressions, and answers the line that brings the 65th.
+// Numbers the expressions, and answers the line that brings the 65th; no Result, as where labels are numbered.
 pub(crate) fn first_crowding(lines: &[Line], table: &mut Numbering<'_, Expression>) -> Option<usize>
     requires empty { table.old.items ≡ [] }
     requires room { table.old.room ≡ 64 }

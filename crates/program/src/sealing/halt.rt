@@ -14,7 +14,7 @@ fn halts(line: &Line) -> bool
     matches!(line.statement, Statement::Halt)
 }
 
-// The number of the line that halts, counted from 0.
+// The number of the line that halts, counted from 0. That no earlier fault fits is a clause, as at `connect`.
 pub(crate) fn only_halt(lines: &[Line]) -> Result<usize, Fault>
     requires { Clean asks lines.now 10 }
     ensures { MatchResult result (λ n. (n ≡ exit_line lines.now) × Clean asks lines.now 11) (Refused lines.now) }

@@ -8,7 +8,8 @@ use crate::successors::Successors;
 use line::{Label, Line};
 use numbering::Numbering;
 
-// Numbers the labels, and answers the lowest line whose label an earlier line has.
+// Numbers the labels, and answers the lowest line whose label an earlier line has: no Result, since with such
+// a line the list is of use to nobody, and is let go.
 pub(crate) fn first_repeated(lines: &[Line], labels: &mut Numbering<'_, Label>) -> Option<usize>
     requires empty { labels.old.items ≡ [] }
     requires room { length lines.now ≤ labels.old.room }
@@ -34,6 +35,7 @@ pub(crate) struct Labelled<'l, 'n> {
 
 impl Labelled<'_, '_> {
     // The lowest line with a successor label that stands on that line, or on none.
+    // It is a rule of the project that this is a search over lines and, inside, over labels, left by a label.
     pub(crate) fn first_leading(&self, to: Option<usize>) -> Option<usize>
         ensures { LowestLine (Leads self.now.lines.now to) result }
     {

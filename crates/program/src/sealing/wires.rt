@@ -12,39 +12,33 @@ use crate::successors::Successors;
 use arrayvec::ArrayVec;
 use draft::MOST_LINES;
 use graph::{Edge, EdgeGraph};
-use line::{Label, Line};
-use numbering::Numbering;
+use line::Line;
 
 // The most edges of a program: two for each line.
 const MOST_EDGES: usize = 2 * MOST_LINES;
 
-// Puts an edge to each successor of the line behind those that there are.
-fn put_edges(
-    number: usize,
-    line: &Line,
-    labels: &Numbering<'_, Label>,
-    edges: &mut ArrayVec<Edge, MOST_EDGES>,
-)
-    requires room { length edges.old.items + length (nexts line.now) ≤ 192 }
-    requires known { every_known labels.now.items (nexts line.now) ≡ true }
-    ensures { edges.new.items ≡ edges.old.items ++ fan number (places_of labels.now.items (nexts line.now)) }
-{
-    for label in Successors::of(line).labels() {
-        if let Some(head) = labels.find(label) {
-            edges.push(Edge { tail: number, head });
+impl Labelled<'_, '_> {
+    // Puts an edge to each successor of the line behind those that there are. By `push`: `extend` answers a Result.
+    fn put_edges(&self, number: usize, line: &Line, edges: &mut ArrayVec<Edge, MOST_EDGES>)
+        requires room { length edges.old.items + length (nexts line.now) ≤ 192 }
+        requires known { every_known self.now.labels.items (nexts line.now) ≡ true }
+        ensures { edges.new.items ≡ edges.old.items ++ fan number (places_of self.now.labels.items (nexts line.now)) }
+    {
+        for label in Successors::of(line).labels() {
+            if let Some(head) = self.labels.find(label) {
+                edges.push(Edge { tail: number, head });
+            }
         }
     }
-}
 
-impl Labelled<'_, '_> {
-    // One edge for each successor, by line and then by place.
+    // One edge for each successor, by line and then by place. That no earlier fault fits is a clause, as at `connect`.
     fn edges(&self) -> ArrayVec<Edge, MOST_EDGES>
         requires { Clean asks self.now.lines.now 10 }
         ensures { result.items ≡ edges_in self.now.lines.now }
     {
         let mut edges = ArrayVec::new();
         for (number, line) in self.lines.iter().enumerate() {
-            put_edges(number, line, &self.labels, &mut edges);
+            self.put_edges(number, line, &mut edges);
         }
         edges
     }

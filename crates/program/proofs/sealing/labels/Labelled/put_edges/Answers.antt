@@ -6,20 +6,20 @@ use Rattle.line.specs.declared.label.Label.{Label}
 use Rattle.wellformed.specs.Lines.{fan}
 use Rattle.program.specs.Refusals.{every_known, places_of}
 use Rattle.program.proofs.Wiring.{is_found, edge_more, fan_long}
-use Rattle.program.proofs.sealing.wires.put_edges.Goals as goal
-use Rattle.program.proofs.sealing.wires.put_edges.Goals.{in-Some, in_default}
+use Rattle.program.proofs.sealing.labels.Labelled.put_edges.Goals as goal
+use Rattle.program.proofs.sealing.labels.Labelled.put_edges.Goals.{in-Some, in_default}
 
 pub push-requires : goal.push-requires
 push-requires c =
     let same = c.labels-label-items.ensures ∙ c.of.ensures in
     let size = ap length same in
-    let so_far = fan_long c.args.number c.args.labels.now.items c.labels-label-items.result.now c.loop-label.label-index c.loop-label.edges.items c.args.edges.now.items (le_of_lt c.loop-label-test.true) c.loop-label.invariant in
+    let so_far = fan_long c.args.number c.args.self.now.labels.items c.labels-label-items.result.now c.loop-label.label-index c.loop-label.edges.items c.args.edges.now.items (le_of_lt c.loop-label-test.true) c.loop-label.invariant in
     omega (arith, c.requires.room, c.loop-label-test.true)
 
 pub loop-label-preserved : goal.loop-label-preserved
 loop-label-preserved c =
     let ks = c.labels-label-items.result.now in
-    let items = c.args.labels.now.items in
+    let items = c.args.self.now.labels.items in
     let i = c.loop-label.label-index in
     let all : every_known items ks ≡ true = ap (every_known items) (c.labels-label-items.ensures ∙ c.of.ensures) ∙ c.requires.known in
     elim c.match-find.branch [
@@ -32,5 +32,5 @@ loop-label-preserved c =
 pub returns : goal.returns
 returns c =
     c.loop-label.invariant
-    ∙ ap (λ (l : List Label). c.args.edges.now.items ++ fan c.args.number (places_of c.args.labels.now.items l))
+    ∙ ap (λ (l : List Label). c.args.edges.now.items ++ fan c.args.number (places_of c.args.self.now.labels.items l))
     (take_all c.loop-label.label-index c.labels-label-items.result.now c.loop-label-test.false ∙ c.labels-label-items.ensures ∙ c.of.ensures)
