@@ -14,7 +14,8 @@ pub struct Expression {
 impl Expression {
     ghost use Rattle.program.specs.Asked.{computes};
 
-    // What the line computes; and of any two expressions, == says whether they are equal.
+    // What the line computes; and of any two expressions, `==` says whether they are equal.
+    // No `TryFrom`, since a line that computes nothing is no error.
     #[tactic(auto, using(crate::proofs::Equal::equal_decides))]
     pub fn of(line: &Line) -> Option<Expression>
         ensures value { result ≡ computes line.now }
