@@ -22,7 +22,8 @@ pub(crate) struct Adjacency {
     ghost inside: { (n : ℕ) → n ≤ MOST_NODES → slice_index starts n ≤ MOST_EDGES },
 }
 
-// The heads of the edges from n come behind those that are there. By `push`: `extend` answers a Result.
+// The heads of the edges from n come behind those that are there. By `push`: `extend` answers a
+// Result, of which one arm cannot be here.
 fn push_heads(edges: &[Edge], n: usize, heads: &mut ArrayVec<usize, MOST_EDGES>)
     requires { array_vec_len heads.old + length (heads_from n edges.now) ≤ MOST_EDGES }
     ensures { heads.new.items ≡ heads.old.items ++ heads_from n edges.now }

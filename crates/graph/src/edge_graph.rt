@@ -39,7 +39,7 @@ fn all_within(count: usize, edges: &[Edge]) -> bool
         .all(|edge| edge.tail < count && edge.head < count)
 }
 
-// The edges turned round. By `push`: `extend` answers a Result.
+// The edges turned round. By `push`: `extend` answers a Result, of which one arm cannot be here.
 fn turned_round(edges: &[Edge]) -> ArrayVec<Edge, MOST_EDGES>
     requires { length edges.now ≤ MOST_EDGES }
     ensures { result.items ≡ map turned_edge edges.now }

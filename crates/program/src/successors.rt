@@ -5,7 +5,7 @@ ghost use Rattle.program.specs.Led.{labels_in};
 
 use line::{Label, Line, Statement};
 
-// As many labels as there are, and no `ArrayVec`, whose elements have a default.
+// As many labels as there are, and no `ArrayVec`, which asks a default of its elements: a label has none.
 #[derive(Clone, Copy)]
 pub(crate) enum Successors {
     Nowhere,

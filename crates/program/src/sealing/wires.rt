@@ -18,7 +18,8 @@ use line::Line;
 const MOST_EDGES: usize = 2 * MOST_LINES;
 
 impl Labelled<'_, '_> {
-    // Puts an edge to each successor of the line behind those that there are. By `push`: `extend` answers a Result.
+    // Puts an edge to each successor of the line behind those that there are. By `push`: `extend` answers a
+    // Result, of which one arm cannot be here.
     fn put_edges(&self, number: usize, line: &Line, edges: &mut ArrayVec<Edge, MOST_EDGES>)
         requires room { length edges.old.items + length (nexts line.now) ≤ 192 }
         requires known { every_known self.now.labels.items (nexts line.now) ≡ true }
