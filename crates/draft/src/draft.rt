@@ -53,14 +53,16 @@ impl Draft {
 
     // The line of that number.
     fn line(&self, number: usize) -> Option<&Line>
-        ensures { option_map (λ x. x.now) result ≡ line_at number self.now }
+        ensures value { option_map (λ x. x.now) result ≡ line_at number self.now }
+        ensures few { length self.now ≤ 96 }
     {
         self.lines.get(number.checked_sub(1)?)
     }
 
     // Puts the text last and answers its number.
     pub fn add(&mut self, text: &[u8]) -> Result<usize, Fault>
-        ensures { Answered (added text.now self.old) result self.new }
+        ensures value { Answered (added text.now self.old) result self.new }
+        ensures few { length self.new ≤ 96 }
     {
         let number = self.lines.len() + 1;
         let line = read(text).map_err(|flaw| flaw.on(number))?;
@@ -75,7 +77,8 @@ impl Draft {
     // the text is read, so the line is put in by its index after both, and no `&mut` to it is held meanwhile.
     #[tactic(auto, using(crate::proofs::Numbered::absent_from_none))]
     pub fn mend(&mut self, number: usize, text: &[u8]) -> Result<usize, Fault>
-        ensures { Answered (mended number text.now self.old) result self.new }
+        ensures value { Answered (mended number text.now self.old) result self.new }
+        ensures few { length self.new ≤ 96 }
     {
         if self.line(number).is_none() {
             return Err(Kind::NoSuchLine.on(number));
@@ -87,7 +90,8 @@ impl Draft {
 
     // Takes the last line away and answers the number that it had.
     pub fn strike(&mut self) -> Result<usize, Fault>
-        ensures { Answered (struck self.old) result self.new }
+        ensures value { Answered (struck self.old) result self.new }
+        ensures few { length self.new ≤ 96 }
     {
         let number = self.lines.len();
         self.lines
@@ -99,6 +103,7 @@ impl Draft {
     // Writes the line of that number to the buffer's start and answers its length.
     pub fn print(&self, number: usize, out: &mut [u8]) -> Result<usize, Fault>
         ensures prints { PrintsLine number self.now out.old result out.new }
+        ensures few { length self.now ≤ 96 }
         ensures back { (x : Line ℤ) → line_at number self.now ≡ Some x → ReadsBack x }
     {
         let line = self.line(number).ok_or(Kind::NoSuchLine.on(number))?;

@@ -3,7 +3,7 @@ ghost use Rattle.std.specs.Prelude.{◌≡◌, ◌+◌, ◌≤◌, [], ◌++◌,
 ghost use Rattle.draft.specs.Plain.{Answered};
 ghost use Rattle.draft.specs.Edits.{edited, fed, answers, Fed};
 
-use crate::draft::Draft;
+use crate::draft::{Draft, MOST_LINES};
 use fault::Fault;
 use std::alloc::{AllocError, Global};
 
@@ -18,7 +18,8 @@ pub enum Edit<'a> {
 impl Draft {
     // Makes the call that the edit stands for.
     pub fn apply(&mut self, edit: Edit<'_>) -> Result<usize, Fault>
-        ensures { Answered (edited edit.entry self.old) result self.new }
+        ensures value { Answered (edited edit.entry self.old) result self.new }
+        ensures few { length self.new ≤ 96 }
     {
         match edit {
             Edit::Add(text) => self.add(text),
@@ -33,6 +34,7 @@ impl Draft {
         requires { vec_len said.old + length edits.now ≤ vec_capacity said.old }
         ensures lines { self.new ≡ fed edits.now self.old }
         ensures said { said.new.items ≡ said.old.items ++ answers edits.now self.old }
+        ensures few { length self.old ≤ 96 → length self.new ≤ 96 }
     {
         for edit in edits {
             said.push_reserved(self.apply(*edit));
@@ -46,8 +48,11 @@ impl Draft {
         heap: Global,
         edits: &[Edit<'_>],
     ) -> Result<Vec<Result<usize, Fault>>, AllocError>
-        ensures { MatchResult result (λ v. Fed edits.now self.old self.new v.items) (λ _. self.new ≡ self.old) }
+        ensures value { MatchResult result (λ v. Fed edits.now self.old self.new v.items) (λ _. self.new ≡ self.old) }
+        ensures few { length self.new ≤ 96 }
     {
+        // So that clause `few` is known too where there is no memory for the answers.
+        prove!(self.len() <= MOST_LINES);
         let mut said = Vec::with_capacity(heap, edits.len())?;
         self.feed(edits, &mut said);
         Ok(said)
@@ -63,7 +68,8 @@ pub struct Replayed {
 
 // Makes the calls in their order on a draft that opens empty.
 pub fn replay(heap: Global, edits: &[Edit<'_>]) -> Result<Replayed, AllocError>
-    ensures { IfOk result (λ p. Fed edits.now [] p.draft p.answers.items) }
+    ensures value { IfOk result (λ p. Fed edits.now [] p.draft p.answers.items) }
+    ensures few { IfOk result (λ p. length p.draft ≤ 96) }
 {
     let mut draft = Draft::new(heap)?;
     let answers = draft.apply_all(heap, edits)?;
