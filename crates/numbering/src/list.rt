@@ -55,7 +55,8 @@ impl<'a, K: Eq + Copy> Numbering<'a, K> {
     // The number of the element, if it has one.
     #[tactic(auto, using(crate::proofs::Positions::position_is))]
     pub fn find(&self, element: &K) -> Option<usize>
-        ensures { result ≡ number_in K.PartialEq.eq element.now self.now.items }
+        ensures value { result ≡ number_in K.PartialEq.eq element.now self.now.items }
+        ensures few { length self.now.items ≤ self.now.room }
     {
         place(self.items(), element)
     }

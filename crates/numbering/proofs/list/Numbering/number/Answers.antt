@@ -10,7 +10,7 @@ laws : (g : given.Over) → Laws g.K.PartialEq.eq
 laws g = equivalence_laws g.met.K.Eq.laws
 
 pub returns-in-Some-clause-appearance : goal.returns-in-Some-clause-appearance
-returns-in-Some-clause-appearance g c = known_appearance (laws g) c.args.self.now.room c.args.element c.args.self.now.items c.in-Some.number c.in-Some.ensures
+returns-in-Some-clause-appearance g c = known_appearance (laws g) c.args.self.now.room c.args.element c.args.self.now.items c.in-Some.number c.in-Some.ensures.value
 
 pub returns-clause-appearance : goal.returns-clause-appearance
 returns-clause-appearance g c =
@@ -20,4 +20,4 @@ returns-clause-appearance g c =
     let held : take n s ≡ c.args.self.now.items = ap (λ (v : Numbered _). v.items) c.self.view_is in
     let size : n ≡ length c.args.self.now.items = sym (length-take-le n s (le_of_lt i)) ∙ ap length held in
     let more = take_more_set s n c.args.element i ∙ ap (λ (l : List _). l ++ (c.args.element ∷ [])) held in
-    new_appearance (laws g) c.args.self.now.room c.args.element c.args.self.now.items c.in_default.ensures n _ size more
+    new_appearance (laws g) c.args.self.now.room c.args.element c.args.self.now.items c.in_default.ensures.value n _ size more

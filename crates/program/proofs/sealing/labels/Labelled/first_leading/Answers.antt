@@ -12,7 +12,7 @@ use Rattle.program.proofs.sealing.labels.Labelled.first_leading.Goals.{After-eq}
 -- what the comparison tells of a label
 compared : (c : goal.After-eq) → c.eq.result ≡ same_line_number (number_in same_label c.label-item.result (labels_of c.args.self.now.lines.now)) c.args.to
 compared c = same_line c.find.result c.args.to c.eq.result c.eq.ensures
-    ∙ ap (λ o. same_line_number o c.args.to) (c.find.ensures ∙ ap (number_in same_label c.label-item.result) c.args.self.now.named)
+    ∙ ap (λ o. same_line_number o c.args.to) (c.find.ensures.value ∙ ap (number_in same_label c.label-item.result) c.args.self.now.named)
 
 pub loop-label-preserved : goal.loop-label-preserved
 loop-label-preserved c =

@@ -25,8 +25,8 @@ loop-label-preserved c =
     elim c.match-find.branch [
       | in-Some w ↦
           ap (λ (v : ArrayVec Edge). v.items) w.edges-is ∙ w.push.ensures.items
-          ∙ edge_more items ks i c.label-item.result all c.loop-label-test.true c.label-item.is c.args.number w.in-Some.head c.loop-label.edges.items c.args.edges.now.items w.in-Some.ensures c.loop-label.invariant
-      | in_default w ↦ absurd (is_found items ks i c.label-item.result all c.loop-label-test.true c.label-item.is c.find.result c.find.ensures w.in_default.is)
+          ∙ edge_more items ks i c.label-item.result all c.loop-label-test.true c.label-item.is c.args.number w.in-Some.head c.loop-label.edges.items c.args.edges.now.items w.in-Some.ensures.value c.loop-label.invariant
+      | in_default w ↦ absurd (is_found items ks i c.label-item.result all c.loop-label-test.true c.label-item.is c.find.result c.find.ensures.value w.in_default.is)
     ]
 
 pub returns : goal.returns
