@@ -14,8 +14,6 @@ use Rattle.program.specs.Asked.{asks, computes}
 use Rattle.program.specs.Sames.{same_expression}
 use Rattle.program.specs.Written.{Lines, expressions_in}
 use Rattle.program.specs.SamesLemmas.{expression_laws}
-use Rattle.program.specs.contracts.expression.ExpressionPartialEq.TheImpl.{eq-value as equal}
-use Rattle.program.proofs.Equal.{equal_is_same}
 use Rattle.program.proofs.Scanning.{take_step}
 
 -- line k is numbered after those before it
@@ -48,16 +46,15 @@ module _ (ls : Lines) (k : ℕ) (x : Line ℤ) (i : k < length ls) (r : x ≡ ge
     grown e s b p = more_expressions e s ∙ ap (λ (l : List Expression). append_unless (known same_expression e l) e l) (sym held) ∙ ap (λ c. append_unless c e t.items) p
 
     -- the answer to e: it has its number, or there is no room for it
-    pub crowds : (e : Expression) (o : Result ℕ NoRoom) (after : List Expression) → t.room ≡ 64 → computes x ≡ Some e → Answered (entered equal.it t.room e t.items) o after → ByAppearance equal.it t.room e t.items o after
+    pub crowds : (e : Expression) (o : Result ℕ NoRoom) (after : List Expression) → t.room ≡ 64 → computes x ≡ Some e → Answered (entered same_expression t.room e t.items) o after → ByAppearance same_expression t.room e t.items o after
         → ((is_err o ≡ false) × (after ≡ expressions_in (take (k + 1) ls)) × (Fits asks ls Crowded (suc k) → ⊥)) ⊎ ((is_err o ≡ true) × Fits asks ls Crowded (suc k))
     crowds e o after room s answered appears =
         let size = ap length held in
-        let told = subst (λ (same : Expression → Expression → Bool). Answered (entered same t.room e t.items) o after) equal_is_same answered in
-        elim (way same_expression t.room e t.items o after told) [
+        elim (way same_expression t.room e t.items o after answered) [
           | known_way p q r ↦ inl (ap is_err q, r ∙ sym (grown e s true p), not_crowded (grown e s true p ∙ held))
           | new_way p l q r ↦ inl (ap is_err q, r ∙ sym (grown e s false p), λ f. let z = f.0 in omega arith)
           | full_way p l q r ↦
-              let full : length t.items ≡ t.room = (subst (λ (o' : Result ℕ NoRoom). ByAppearance equal.it t.room e t.items o' after) q appears).1 in
+              let full : length t.items ≡ t.room = (subst (λ (o' : Result ℕ NoRoom). ByAppearance same_expression t.room e t.items o' after) q appears).1 in
               let more = ap length (grown e s false p) in
               let one = length-append t.items (e ∷ []) in
               let next = ap (λ (j : ℕ). length (expressions_in (take j ls))) (add-one k) in

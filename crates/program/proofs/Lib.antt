@@ -1,4 +1,3 @@
-pub mod Equal
 mod Crowding
 mod Halting
 mod Judging
