@@ -1,8 +1,7 @@
 -- Meets, and what comes in over edges. Assumes nothing.
-use Rattle.std.proofs.Common.{◌≡◌, ℕ, ◌+◌, ◌<◌, ◌≤◌, Bool, true, false, cond, eqb, List, [], ◌∷◌, length, get_or, drop, sym, refl, ap, subst, ◌∙◌, ap₂, arith}
+use Rattle.std.proofs.Common.{◌≡◌, ℕ, suc, ◌+◌, ◌<◌, ◌≤◌, Bool, true, false, cond, eqb, List, [], ◌∷◌, sym, refl, ap, subst, ◌∙◌, ap₂, arith}
 use borrow.Author.Tests.{eqb-false}
 use Rattle.std.specs.List.{All}
-use Rattle.std.proofs.lemmas.List.{at_drop_more}
 use Rattle.graph.specs.Shapes.{times, AllBelow}
 use Rattle.graph.specs.EdgeLists.{fact_below}
 use Rattle.facts.specs.Order.{Below}
@@ -20,6 +19,14 @@ laws_of p q r s = record { assoc = p; comm = q; idem = r; neutral = s }
 -- what stands in the list of a node's neighbours is a node
 pub all_nodes : (c : ℕ) (l ms : List ℕ) → c ≤ 288 → AllBelow c l → ms ≡ l → All (λ n. n < 288) ms
 all_nodes c l ms most h e k d i = omega (arith, fact_below c ms (subst (AllBelow c) (sym e) h) k d i)
+
+-- the first of some nodes, and the others
+
+pub first_node : (m : ℕ) (ls ms : List ℕ) → ms ≡ m ∷ ls → All (λ n. n < 288) ms → m < 288
+first_node m ls ms e h = subst (All (λ n. n < 288)) e h 0 m (omega arith)
+
+pub other_nodes : (m : ℕ) (ls ms : List ℕ) → ms ≡ m ∷ ls → All (λ n. n < 288) ms → All (λ n. n < 288) ls
+other_nodes m ls ms e h k d i = subst (All (λ n. n < 288)) e h (suc k) d (omega arith)
 
 module _ {F : Type 0} {top : F} {meet : F → F → F} (laws : Laws top meet) where
   pub below_refl : (a : F) → Below meet a a
@@ -45,9 +52,11 @@ module _ {F : Type 0} {top : F} {meet : F → F → F} (laws : Laws top meet) wh
       below_both (meet a b) c d (below_trans (meet a b) a c (below_left a b) p) (below_trans (meet a b) b d (below_right a b) q)
 
   module _ (step : ℕ → F → F) where
-    pub inflow_next : (f : ℕ → F) (ms : List ℕ) (k d : ℕ) (a : F) → k < length ms
-        → meet (meet a (step (get_or ms k d) (f (get_or ms k d)))) (inflow top meet step f (drop (k + 1) ms)) ≡ meet a (inflow top meet step f (drop k ms))
-    inflow_next f ms k d a h = let m = get_or ms k d in laws.assoc a (step m (f m)) _ ∙ sym (ap (meet a) (at_drop_more (inflow top meet step f) ms k d h))
+    pub inflow_next : (f : ℕ → F) (m : ℕ) (ls ms : List ℕ) (a b : F) → ms ≡ m ∷ ls → b ≡ meet a (step m (f m))
+        → meet b (inflow top meet step f ls) ≡ meet a (inflow top meet step f ms)
+    inflow_next f m ls ms a b e v =
+        let rest = inflow top meet step f ls in
+        ap (λ x. meet x rest) v ∙ laws.assoc a (step m (f m)) rest ∙ sym (ap (λ l. meet a (inflow top meet step f l)) e)
 
     pub inflow_mono : ((n : ℕ) (a b : F) → Below meet a b → Below meet (step n a) (step n b)) → (c : ℕ) (f g : ℕ → F) → ((n : ℕ) → n < c → Below meet (f n) (g n))
         → (ms : List ℕ) → AllBelow c ms → Below meet (inflow top meet step f ms) (inflow top meet step g ms)

@@ -1,9 +1,10 @@
 // The nodes that wait to be visited: they leave in the order in which they came, and none waits twice.
 ghost use Rattle.std.specs.Prelude.{◌≡◌, ℕ, List, [], ◌∷◌, ◌<◌, ◌≤◌, All, length, MatchOption};
+ghost use Rattle.graph.specs.Neighbours.{ahead};
 ghost use Rattle.graph.specs.Shapes.{times, AllBelow};
 ghost use Rattle.flow.specs.Rings.{places, joined, joined_all, Ring};
 
-use graph::MOST_NODES;
+use graph::{Graph, MOST_NODES, Neighbours};
 use std::marker::Model;
 
 // A ring, of which `len` places from `head` on are taken, and a mark at each node that waits.
@@ -66,12 +67,12 @@ impl Queue {
     }
 
     // Each of the nodes waits, in turn.
-    pub(crate) fn push_all(&mut self, nodes: &[usize])
-        requires { All (λ n. n < MOST_NODES) nodes.now }
-        ensures joins { self.new ≡ joined_all nodes.now self.old }
+    pub(crate) fn push_all<G: Graph>(&mut self, nodes: Neighbours<'_, G>)
+        requires { All (λ n. n < MOST_NODES) (ahead G.Graph.shape nodes) }
+        ensures joins { self.new ≡ joined_all (ahead G.Graph.shape nodes.entry) self.old }
         ensures few { length self.old ≤ MOST_NODES → length self.new ≤ MOST_NODES }
     {
-        for &n in nodes {
+        for n in nodes {
             self.push(n);
         }
     }

@@ -30,9 +30,9 @@ impl<G: Graph, P: Problem> Equations<'_, G, P> {
     {
         // As a slice, whose size in memory the proof knows.
         let facts = facts.as_slice();
-        // A loop and no `fold`: in its closure it stayed open that every node of the list has a fact.
+        // A loop and no `fold`: in its closure it stayed open that every neighbour has a fact.
         let mut all = <P::Fact as Fact>::top();
-        for &m in self.graph.predecessors(n) {
+        for m in self.graph.each_predecessor(n) {
             all = all.meet(self.problem.step(m, facts[m]));
         }
         all
@@ -67,7 +67,7 @@ pub fn solve<G: Graph, P: Problem>(graph: &G, problem: &P) -> [P::Fact; MOST_NOD
             && let Some(new) = equations.revised(&facts, n)
         {
             facts[n] = new;
-            queue.push_all(graph.successors(n));
+            queue.push_all(graph.each_successor(n));
             falls_left -= 1;
         }
     }

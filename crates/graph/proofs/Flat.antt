@@ -1,8 +1,11 @@
 -- The heads of the edges from node 0, from node 1 and so on, one list after the other. Assumes nothing.
-use Rattle.std.proofs.Common.{◌≡◌, ℕ, zero, suc, ◌+◌, ◌-◌, ◌<◌, ◌≤◌, cond, eqb, ltb, List, [], ◌∷◌, ◌++◌, length, get_or, take, drop, sym, refl, ap, ◌∙◌, inl, inr, add-one, arith}
-use Rattle.std.proofs.lemmas.List.{append-nil, append_assoc, length-append, take-append-drop, take_at, drop_at}
+use Rattle.std.proofs.Common.{◌≡◌, ℕ, zero, suc, ◌+◌, ◌-◌, ◌<◌, ◌≤◌, cond, eqb, ltb, List, [], ◌∷◌, ◌++◌, length, get_or, take, drop, sym, refl, ap, ap₂, ◌∙◌, inl, inr, add-one, arith}
+use Rattle.std.proofs.lemmas.List.{append-nil, append_assoc, length-append, length-take-le, take-take, take-append-drop, take_at, drop_at}
+use Rattle.std.proofs.Math.Seq.{take-append-add}
+use Rattle.std.proofs.lemmas.Slice.{take-put_mid}
 use Rattle.std.proofs.lemmas.Bool.{cases_eq, cases_lt}
 use Rattle.std.proofs.lemmas.Bool.Decides.{nat_tests}
+use borrow.Rule.Slice.PartMut.{put_mid}
 use Rattle.graph.specs.declared.edge.Edge.{Edge}
 use Rattle.graph.specs.Edges.{heads_from}
 use Rattle.graph.specs.EdgeLists.{length_put}
@@ -16,6 +19,19 @@ flat_more n es = ap (λ (k : ℕ). flat k es) (add-one n)
 
 pub length_more : (n : ℕ) (es : List Edge) → length (flat (n + 1) es) ≡ length (flat n es) + length (heads_from n es)
 length_more n es = ap length (flat_more n es) ∙ length-append (flat n es) (heads_from n es)
+
+-- w numbers written behind the lists of the first n nodes
+pub flat_written : (n : ℕ) (es : List Edge) (a k w : ℕ) (xs ys : List ℕ) → take (length (flat n es)) xs ≡ flat n es → a ≡ length (flat n es) → a ≤ length xs
+    → take w ys ≡ heads_from n es → w ≡ length (heads_from n es) → w ≤ length ys → take (length (flat (n + 1) es)) (put_mid a k xs ys) ≡ flat (n + 1) es
+flat_written n es a k w xs ys t e h u v i =
+    let m = length_more n es in
+    let s = length-take-le a xs h in
+    sym (take-take (length (flat (n + 1) es)) (a + length ys) (put_mid a k xs ys) (omega arith))
+    ∙ ap (take (length (flat (n + 1) es))) (take-put_mid a k xs ys (a + length ys) refl h)
+    ∙ ap (λ (j : ℕ). take j (take a xs ++ ys)) (omega arith)
+    ∙ take-append-add (take a xs) ys w
+    ∙ ap₂ (λ (p q : List ℕ). p ++ q) (ap (λ (j : ℕ). take j xs) e ∙ t) u
+    ∙ sym (flat_more n es)
 
 -- each edge counts once at most
 

@@ -1,5 +1,6 @@
 pub mod Edges
 pub mod Made
+pub mod Neighbours
 pub mod Paths
 pub mod Rows
 pub mod Shapes

@@ -1,13 +1,11 @@
 // Lists of neighbours, one for each node, in two arrays.
-ghost use Rattle.std.specs.Prelude.{◌≡◌, ℕ, ◌+◌, ◌<◌, ◌≤◌, ◌++◌, length, slice_index};
-ghost use Rattle.arrayvec.specs.ArrayVec.{array_vec_len};
+ghost use Rattle.std.specs.Prelude.{◌≡◌, ℕ, ◌+◌, ◌<◌, ◌≤◌, length, take, slice_index};
 ghost use Rattle.graph.specs.Edges.{heads_from};
 ghost use Rattle.graph.specs.declared.adjacency.TheConstants.{MOST_EDGES};
 ghost use Rattle.graph.specs.declared.flow_graph.TheConstants.{MOST_NODES};
 
 use crate::edge::Edge;
 use crate::flow_graph::MOST_NODES;
-use arrayvec::ArrayVec;
 
 // The most edges that a graph made from its edges can have.
 pub(crate) const MOST_EDGES: usize = 384;
@@ -22,39 +20,45 @@ pub(crate) struct Adjacency {
     ghost inside: { (n : ℕ) → n ≤ MOST_NODES → slice_index starts n ≤ MOST_EDGES },
 }
 
-// The heads of the edges from n come behind those that are there. By `push`: `extend` answers a
-// Result, of which one arm cannot be here.
-fn push_heads(edges: &[Edge], n: usize, heads: &mut ArrayVec<usize, MOST_EDGES>)
-    requires { array_vec_len heads.old + length (heads_from n edges.now) ≤ MOST_EDGES }
-    ensures { heads.new.items ≡ heads.old.items ++ heads_from n edges.now }
+// Writes the heads of the edges from n to the front of `ends`, and answers how many they are.
+// Not by `push` to an `ArrayVec`, which is filled twice when it is made, and a small graph would pay for that.
+fn write_heads(edges: &[Edge], n: usize, ends: &mut [usize]) -> usize
+    requires { length (heads_from n edges.now) ≤ length ends.old }
+    ensures count { result ≡ length (heads_from n edges.now) }
+    ensures front { take result ends.new ≡ heads_from n edges.now }
 {
+    let mut written = 0;
     for edge in edges {
         if edge.tail == n {
-            heads.push(edge.head);
+            ends[written] = edge.head;
+            written += 1;
         }
     }
+    written
 }
 
 impl Adjacency {
     ghost use Rattle.graph.specs.Rows.{row, row_values_below};
 
     // The heads of the edges, by their tails.
+    // Not inlined, since its result, some 5 KB, would then be copied more often.
+    #[inline(never)]
     pub(crate) fn new(count: usize, edges: &[Edge]) -> Adjacency
         requires few { count ≤ MOST_NODES }
         requires short { length edges.now ≤ MOST_EDGES }
         ensures { (n : ℕ) → n < count → row result n ≡ heads_from n edges.now }
     {
+        let mut lists = Adjacency {
+            starts: [0; MOST_NODES + 1],
+            ends: [0; MOST_EDGES],
+        };
         // What is no node has no neighbours, and its list starts at the end.
-        let mut starts = [edges.len(); MOST_NODES + 1];
-        starts[0] = 0;
-        let mut heads = ArrayVec::new();
+        lists.starts[1..].fill(edges.len());
         for n in 0..count {
-            push_heads(edges, n, &mut heads);
-            starts[n + 1] = heads.len();
+            let start = lists.starts[n];
+            lists.starts[n + 1] = start + write_heads(edges, n, &mut lists.ends[start..]);
         }
-        let mut ends = [0; MOST_EDGES];
-        ends[..heads.len()].copy_from_slice(heads.as_slice());
-        Adjacency { starts, ends }
+        lists
     }
 
     // The neighbours of node n.

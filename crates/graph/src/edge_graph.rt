@@ -1,5 +1,6 @@
 // A graph made from its edges.
-ghost use Rattle.std.specs.Prelude.{◌≡◌, ℕ, ◌<◌, ◌≤◌, ◌↔◌, IsTrue, All, map, length};
+ghost use Rattle.std.specs.Prelude.{◌≡◌, ℕ, ◌<◌, ◌≤◌, ◌↔◌, IsTrue, All, map, length, take};
+ghost use Rattle.std.specs.List.{slice_get};
 ghost use Rattle.graph.specs.Edges.{turned_edge};
 ghost use Rattle.graph.specs.Rows.{row, row_values_below};
 ghost use Rattle.graph.specs.Shapes.{times};
@@ -8,7 +9,6 @@ ghost use Rattle.graph.specs.declared.flow_graph.TheConstants.{MOST_NODES};
 use crate::adjacency::{Adjacency, MOST_EDGES};
 use crate::edge::Edge;
 use crate::flow_graph::{Graph, MOST_NODES};
-use arrayvec::ArrayVec;
 
 // Each node's successors and predecessors are found without a search.
 // The facts stand here for both lists, and not in `Adjacency`, since a list alone knows neither the count nor the other.
@@ -39,14 +39,15 @@ fn all_within(count: usize, edges: &[Edge]) -> bool
         .all(|edge| edge.tail < count && edge.head < count)
 }
 
-// The edges turned round. By `push`: `extend` answers a Result, of which one arm cannot be here.
-fn turned_round(edges: &[Edge]) -> ArrayVec<Edge, MOST_EDGES>
+// The edges turned round, and behind them edges that are of no account.
+// An array and not an `ArrayVec`, which is filled twice when it is made, and a small graph would pay for that.
+fn turned_round(edges: &[Edge]) -> [Edge; MOST_EDGES]
     requires { length edges.now ≤ MOST_EDGES }
-    ensures { result.items ≡ map turned_edge edges.now }
+    ensures { take (length edges.now) result ≡ map turned_edge edges.now }
 {
-    let mut turned = ArrayVec::new();
-    for edge in edges {
-        turned.push(edge.turned());
+    let mut turned = [Edge { tail: 0, head: 0 }; MOST_EDGES];
+    for (place, edge) in edges.iter().enumerate() {
+        turned[place] = edge.turned();
     }
     turned
 }
@@ -59,8 +60,15 @@ fn all_narrow(count: usize, lists: &Adjacency) -> bool
     (0..count).all(|n| lists.row(n).len() <= MOST_NODES)
 }
 
+// The k-th node of a list. A function of its own, where the proof reads no more of a graph than this list.
+fn nth(list: &[usize], k: usize) -> Option<usize>
+    ensures { result ≡ slice_get list.now k }
+{
+    list.get(k).copied()
+}
+
 impl EdgeGraph {
-    ghost use Rattle.graph.specs.Made.{Makes};
+    ghost use Rattle.graph.specs.Made.{Makes, shape_in};
 
     // The graph of these edges, or none if they make no graph or are more than 384.
     pub fn new(count: usize, entry: usize, exit: usize, edges: &[Edge]) -> Option<EdgeGraph>
@@ -74,7 +82,7 @@ impl EdgeGraph {
         }
         let turned = turned_round(edges);
         let outgoing = Adjacency::new(count, edges);
-        let incoming = Adjacency::new(count, turned.as_slice());
+        let incoming = Adjacency::new(count, &turned[..edges.len()]);
         if !all_narrow(count, &outgoing) || !all_narrow(count, &incoming) {
             return None;
         }
@@ -85,6 +93,20 @@ impl EdgeGraph {
             outgoing,
             incoming,
         })
+    }
+
+    // The successors of node n, one for each edge from it.
+    pub fn successors(&self, n: usize) -> &[usize]
+        ensures { result.now ≡ (shape_in self.now).succs n }
+    {
+        self.outgoing.row_below(self.count, n)
+    }
+
+    // The predecessors of node n, one for each edge to it.
+    pub fn predecessors(&self, n: usize) -> &[usize]
+        ensures { result.now ≡ (shape_in self.now).preds n }
+    {
+        self.incoming.row_below(self.count, n)
     }
 }
 
@@ -125,11 +147,11 @@ impl Graph for EdgeGraph {
         self.exit
     }
 
-    fn successors(&self, n: usize) -> &[usize] {
-        self.outgoing.row_below(self.count, n)
+    fn successor(&self, n: usize, k: usize) -> Option<usize> {
+        nth(self.successors(n), k)
     }
 
-    fn predecessors(&self, n: usize) -> &[usize] {
-        self.incoming.row_below(self.count, n)
+    fn predecessor(&self, n: usize, k: usize) -> Option<usize> {
+        nth(self.predecessors(n), k)
     }
 }

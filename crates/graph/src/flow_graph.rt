@@ -1,7 +1,10 @@
 // Flow graphs by their meaning.
 ghost use Rattle.std.specs.Prelude.{◌≡◌};
 ghost use Rattle.std.specs.List.{slice_get};
+ghost use Rattle.graph.specs.Neighbours.{ahead};
 ghost use Rattle.graph.specs.Shapes.{Shape, Sized, SameEdges};
+
+use crate::neighbours::{Direction, Neighbours};
 
 // The most nodes that a graph can have. That a number is below it is said in clauses and by no type of its
 // own, which would be taken apart at each index and each count.
@@ -21,29 +24,33 @@ pub trait Graph {
     fn exit(&self) -> usize
         ensures { result ≡ (shape self.now).exit };
 
-    // The successors of node n, one for each edge from it.
-    fn successors(&self, n: usize) -> &[usize]
-        ensures { result.now ≡ (shape self.now).succs n };
+    // The k-th successor of node n, counted from 0.
+    fn successor(&self, n: usize, k: usize) -> Option<usize>
+        ensures { result ≡ slice_get ((shape self.now).succs n) k };
 
-    // The predecessors of node n, one for each edge to it.
-    fn predecessors(&self, n: usize) -> &[usize]
-        ensures { result.now ≡ (shape self.now).preds n };
+    // The k-th predecessor of node n, counted from 0.
+    fn predecessor(&self, n: usize, k: usize) -> Option<usize>
+        ensures { result ≡ slice_get ((shape self.now).preds n) k };
 
     ghost sized: { (g : Self) → Sized (shape g) };
 
     ghost edges: { (g : Self) → SameEdges (shape g) };
 
-    // The k-th successor of node n, counted from 0.
-    final fn successor(&self, n: usize, k: usize) -> Option<usize>
-        ensures { result ≡ slice_get ((shape self.now).succs n) k }
+    // The successors of node n, one for each edge from it.
+    final fn each_successor(&self, n: usize) -> Neighbours<'_, Self>
+    where
+        Self: Sized,
+        ensures { ahead shape result ≡ (shape self.now).succs n }
     {
-        self.successors(n).get(k).copied()
+        Neighbours::new(self, Direction::Outgoing, n)
     }
 
-    // The k-th predecessor of node n, counted from 0.
-    final fn predecessor(&self, n: usize, k: usize) -> Option<usize>
-        ensures { result ≡ slice_get ((shape self.now).preds n) k }
+    // The predecessors of node n, one for each edge to it.
+    final fn each_predecessor(&self, n: usize) -> Neighbours<'_, Self>
+    where
+        Self: Sized,
+        ensures { ahead shape result ≡ (shape self.now).preds n }
     {
-        self.predecessors(n).get(k).copied()
+        Neighbours::new(self, Direction::Incoming, n)
     }
 }

@@ -5,9 +5,11 @@ mod adjacency;
 mod edge;
 mod edge_graph;
 mod flow_graph;
+mod neighbours;
 mod reversed;
 
 pub use edge::Edge;
 pub use edge_graph::EdgeGraph;
 pub use flow_graph::{Graph, MOST_NODES};
+pub use neighbours::Neighbours;
 pub use reversed::Reversed;

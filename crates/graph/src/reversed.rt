@@ -44,11 +44,11 @@ impl<G: Graph> Graph for Reversed<G> {
         self.of.entry()
     }
 
-    fn successors(&self, n: usize) -> &[usize] {
-        self.of.predecessors(n)
+    fn successor(&self, n: usize, k: usize) -> Option<usize> {
+        self.of.predecessor(n, k)
     }
 
-    fn predecessors(&self, n: usize) -> &[usize] {
-        self.of.successors(n)
+    fn predecessor(&self, n: usize, k: usize) -> Option<usize> {
+        self.of.successor(n, k)
     }
 }

@@ -56,7 +56,7 @@ pub overflow_sub-falls_left : goal.overflow_sub-falls_left
 overflow_sub-falls_left g c = (fallen g c).0
 
 pub push_all-requires : goal.push_all-requires
-push_all-requires g c = let z = g.met.G.Graph.sized c.args.graph.now in all_nodes _ _ c.successors.result.now z.most (z.succs_in c.in-Some.n) c.successors.ensures
+push_all-requires g c = let z = g.met.G.Graph.sized c.args.graph.now in all_nodes _ _ _ z.most (z.succs_in _) c.each_successor.ensures
 
 few : (g : given.Over) (c : goal.After-push_all g) → length c.push_all.new.self ≤ 288
 few g c = c.push_all.ensures.few (omega (arith, ap length c.in-Some.ensures, c.loop-n.invariant.few))
@@ -69,6 +69,6 @@ loop-n-preserved-in-Some g c = record {
   long = length-set c.loop-n.facts c.in-Some.n c.in-Some-revised.new ∙ c.loop-n.invariant.long;
   few = few g c;
   going = turn_table (laws g) (sized g c) (edges g c) (g.met.P.Problem.monotone c.args.problem.now) (here g c) c.push_all.new.self
-      (c.push_all.ensures.joins ∙ ap (λ ms. joined_all ms c.pop.new.self) c.successors.ensures);
+      (c.push_all.ensures.joins ∙ ap (λ ms. joined_all ms c.pop.new.self) c.each_successor.ensures);
   paid = (fallen g c).1;
 }

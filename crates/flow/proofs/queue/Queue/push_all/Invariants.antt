@@ -1,9 +1,14 @@
-use Rattle.std.proofs.Common.{◌≡◌, ◌≤◌, length, drop}
+use Rattle.std.proofs.Common.{◌≡◌, ◌<◌, ◌≤◌, length}
+use Rattle.std.specs.List.{All}
+use Rattle.graph.specs.Neighbours.{ahead}
 use Rattle.flow.specs.Rings.{joined_all}
 use Rattle.flow.proofs.queue.Queue.push_all.Given as goal
 
 abbrev pub invariant-loop-n : goal.invariant-loop-n
-invariant-loop-n l = record {
-  joins : joined_all (drop l.n-index l.nodes) l.self ≡ joined_all l.nodes l.initial.self;
-  few : length l.initial.self ≤ 288 → length l.self ≤ 288;
-}
+invariant-loop-n g l =
+    let shape = g.G.Graph.shape in
+    record {
+      inside : All (λ n. n < 288) (ahead shape l.n-iterator);
+      joins : joined_all (ahead shape l.n-iterator) l.self ≡ joined_all (ahead shape l.initial.n-iterator) l.initial.self;
+      few : length l.initial.self ≤ 288 → length l.self ≤ 288;
+    }

@@ -9,7 +9,7 @@ use Rattle.graph.proofs.edge_graph.EdgeGraph.new.Goals as goal
 use Rattle.graph.proofs.edge_graph.EdgeGraph.new.Goals.{After-new-incoming, then-not-all_narrow-via-then-not-all_narrow, then-not-all_narrow-via-else-not-all_narrow+then-not-all_narrow-2}
 
 incoming : (c : After-new-incoming) (n : ℕ) → n < c.args.count → row c.new-incoming.result n ≡ heads_from n (map turned_edge c.args.edges.now)
-incoming c n h = c.new-incoming.ensures n h ∙ ap (heads_from n) (c.as_slice.ensures.value ∙ c.turned_round-turned.ensures)
+incoming c n h = c.new-incoming.ensures n h ∙ ap (heads_from n) c.turned_round-turned.ensures
 
 pub returns-then-not-all_within : goal.returns-then-not-all_within
 returns-then-not-all_within c sized few =
