@@ -40,7 +40,7 @@ fn all_within(count: usize, edges: &[Edge]) -> bool
 }
 
 // The edges turned round, and behind them edges that are of no account.
-// An array and not an `ArrayVec`, which is filled twice when it is made, and a small graph would pay for that.
+// An array and not an `ArrayVec`, for the reason at `write_heads`.
 fn turned_round(edges: &[Edge]) -> [Edge; MOST_EDGES]
     requires { length edges.now ≤ MOST_EDGES }
     ensures { take (length edges.now) result ≡ map turned_edge edges.now }
